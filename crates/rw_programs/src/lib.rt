@@ -1,0 +1,5 @@
+//! Specifications, programs, and what a law makes of a specification.
+#![tactic(auto)]
+
+pub mod applied;
+pub mod prog;
