@@ -1,0 +1,4 @@
+//! The basic laws of the calculus: what a step makes of a specification.
+#![tactic(auto)]
+
+pub mod step;

@@ -1,0 +1,4 @@
+//! Certificates that show a sequent valid, and their checker.
+#![tactic(auto)]
+
+pub mod line;
