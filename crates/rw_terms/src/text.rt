@@ -1,6 +1,7 @@
 //! Texts that are written piece by piece.
 
-ghost use Rattle.std.specs.Prelude.{◌≡◌, [], ◌++◌, OnOk, OnErr, IfOk, IsTrue, decimal, signed_decimal};
+ghost use Rattle.std.specs.Prelude.{◌≡◌, [], ◌++◌, OnOk, OnErr, IfOk, IsTrue, decimal};
+ghost use Rattle.std.specs.Fmt.{signed_decimal};
 ghost use Rattle.rw_terms.specs.Texts.{is_ascii};
 
 use crate::name::Name;
@@ -51,6 +52,7 @@ impl Text {
     }
 
     /// Writes a name at the end.
+    #[tactic(auto, using(crate::proofs::TextLemmas::name_is_ascii))]
     pub fn push_name(&mut self, name: &Name) -> Result<(), AllocError>
         ensures ok { OnOk result (self.new ≡ self.old ++ name.now) }
         ensures err { OnErr result (self.new ≡ self.old) }
@@ -59,6 +61,7 @@ impl Text {
     }
 
     /// Writes the decimal digits of a number at the end.
+    #[tactic(auto, using(crate::proofs::TextLemmas::ascii_passes))]
     pub fn push_number(&mut self, number: u64) -> Result<(), AllocError>
         ensures ok { OnOk result (self.new ≡ self.old ++ decimal number) }
         ensures err { OnErr result (self.new ≡ self.old) }
@@ -69,6 +72,7 @@ impl Text {
     }
 
     /// Writes the decimal digits of an integer at the end, behind `-` where it is negative.
+    #[tactic(auto, using(crate::proofs::TextLemmas::ascii_passes))]
     pub fn push_integer(&mut self, integer: i128) -> Result<(), AllocError>
         ensures ok { OnOk result (self.new ≡ self.old ++ signed_decimal integer) }
         ensures err { OnErr result (self.new ≡ self.old) }
