@@ -7,6 +7,7 @@ use crate::prog::{Prog, Spec};
 use rw_items::Items;
 use rw_terms::name::Name;
 use rw_terms::scope::Scope;
+use rw_terms::sequent::Sequent;
 use std::alloc::AllocError;
 use thiserror::Error;
 
@@ -56,4 +57,12 @@ impl From<AllocError> for ApplyError {
     fn from(_: AllocError) -> ApplyError {
         ApplyError::Memory
     }
+}
+
+/// What a step makes of a specification: a skeleton, what its kids are to meet, and what is to be shown.
+#[derive(Drop)]
+pub struct Applied {
+    pub skeleton: Prog,
+    pub children: Items<Child>,
+    pub obligations: Items<Sequent>,
 }

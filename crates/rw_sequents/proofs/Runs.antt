@@ -57,7 +57,7 @@ good_follows (Open (q ∷ rest)) n e = absurd (cc)
 good_follows (Failed a b c) n e = absurd (cc)
 
 pub good_valid : (q : Sequent) (cert : Cert) (v : Verdict) → v ≡ verdict q cert → v ≡ Good → (library : List Definition) → Valid library q
-good_valid q cert v is e library = follows_Valid library q cert (good_follows (after q cert (length cert.lines)) (length cert.lines) (sym is ∙ e))
+good_valid q cert v is e library = follows_valid library q cert (good_follows (after q cert (length cert.lines)) (length cert.lines) (sym is ∙ e))
 
 whole : (q : Sequent) (cert : Cert) → after q cert (length cert.lines) ≡ after_lines (Open (q ∷ [])) cert.lines 1
 whole q cert = ap (λ ls. after_lines (Open (q ∷ [])) ls 1) (take-length cert.lines)

@@ -9,9 +9,9 @@ use crate::effect::{Effect, Fault};
 use crate::error::CheckError;
 use crate::line::{Cert, CertLine, Verdict};
 use crate::rules::after_line;
-use rw_terms::sequent::Sequent;
 use rw_items::Items;
 use rw_steps::Steps;
+use rw_terms::sequent::Sequent;
 use std::alloc::{AllocError, Global};
 use std::sync::ledger::Ledger;
 
