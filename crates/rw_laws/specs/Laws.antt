@@ -3,7 +3,7 @@ use Rattle.std.specs.Prelude.{List, [], ◌∷◌}
 use Rattle.rw_terms.specs.declared.term.Formula.{Formula}
 use Rattle.rw_terms.specs.declared.scope.Entry.{Entry}
 use Rattle.rw_terms.specs.declared.sequent.Sequent.{Sequent}
-use Rattle.rw_terms.specs.FreeNames.{names_of}
+use Rattle.rw_terms.specs.Naming.{names_of}
 use Rattle.rw_programs.specs.declared.prog.Spec.{Spec}
 use Rattle.rw_programs.specs.declared.prog.Prog.{Prog}
 use Rattle.rw_programs.specs.declared.prog.Prog.TheVariants as prog

@@ -2,4 +2,5 @@
 #![tactic(auto)]
 
 pub mod applied;
+pub mod copying;
 pub mod prog;

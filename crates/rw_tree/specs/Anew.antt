@@ -1,0 +1,99 @@
+-- Checking anew: the status of each node, from the live edits alone.
+use Rattle.std.specs.Prelude.{◌≡◌, ℕ, ◌+◌, List, [], ◌∷◌, map, false, Option, Some, None}
+use Rattle.rw_terms.specs.declared.scope.Entry.{Entry}
+use Rattle.rw_terms.specs.declared.scope.Kind.TheVariants as kind
+use Rattle.rw_terms.specs.declared.sequent.Sequent.{Sequent}
+use Rattle.rw_programs.specs.declared.prog.Param.{Param}
+use Rattle.rw_programs.specs.declared.prog.Spec.{Spec}
+use Rattle.rw_programs.specs.declared.prog.Prog.{Prog}
+use Rattle.rw_programs.specs.declared.applied.Context.{Context}
+use Rattle.rw_programs.specs.declared.applied.Applied.{Applied}
+use Rattle.rw_sequents.specs.declared.line.Cert.{Cert}
+use Rattle.rw_sequents.specs.declared.line.Verdict.{Verdict}
+use Rattle.rw_sequents.specs.declared.line.Verdict.TheVariants as verdicts
+use Rattle.rw_sequents.specs.After.{verdict}
+use Rattle.rw_laws.specs.Laws.{law_of}
+use Rattle.rw_tree.specs.declared.edit.Edit.{Edit}
+use Rattle.rw_tree.specs.declared.edit.Step.{Step}
+use Rattle.rw_tree.specs.declared.edit.Step.TheVariants as step
+use Rattle.rw_tree.specs.declared.edit.TreeName.TheVariants as tree
+use Rattle.rw_tree.specs.declared.status.NeedState.{NeedState}
+use Rattle.rw_tree.specs.declared.status.NeedState.TheVariants as need
+use Rattle.rw_tree.specs.declared.status.Need.{Need}
+use Rattle.rw_tree.specs.declared.status.Status.{Status}
+use Rattle.rw_tree.specs.declared.status.Status.TheVariants as status
+use Rattle.rw_tree.specs.declared.status.NodeMark.{NodeMark}
+use Rattle.rw_tree.specs.declared.status.Statuses.{Statuses}
+use Rattle.rw_tree.specs.Edits.{globals_of, root_of, step_at, cert_at}
+
+-- a global in the scope of the main tree
+abbrev pub global : Param → Entry
+global p = record { name = p.name; sort = p.sort; kind = kind.Global }
+
+-- where the main tree stands: its scope is the globals
+abbrev pub main_context : List Param → Context
+main_context globals = record { scope = map global globals; opened = []; order = 4294967295; inner = false }
+
+-- what the law of a step makes of a specification
+abbrev pub applied : Context → Spec → Step → Applied
+applied context w (step.Basic s) = law_of context w s
+
+-- what a verdict says of an obligation
+abbrev pub state_by : Verdict → NeedState
+state_by verdicts.Good = need.Good
+state_by (verdicts.Bad line sub cause) = need.Bad line sub cause
+
+-- the state of an obligation: good by its certificate, bad by it, or without one
+abbrev pub state_of : Sequent → Option Cert → NeedState
+state_of q None = need.Missing
+state_of q (Some cert) = state_by (verdict q cert)
+
+-- the obligations from number k on with their states, by the certificate of each number
+abbrev pub needs_from : ℕ → List Sequent → (ℕ → Option Cert) → List Need
+needs_from k [] certs = []
+needs_from k (q ∷ qs) certs = record { sequent = q; state = state_of q (certs k) } ∷ needs_from (k + 1) qs certs
+
+-- the first obligation that is not good, or what comes behind it
+abbrev pub held_up : ℕ → NeedState → Status → Status
+held_up k need.Good later = later
+held_up k need.Missing later = status.Pending k need.Missing
+held_up k (need.Bad line sub cause) later = status.Pending k (need.Bad line sub cause)
+
+-- the status that the obligations from number k on give
+abbrev pub pending_from : ℕ → List Need → Status
+pending_from k [] = status.Good
+pending_from k (n ∷ needs) = held_up k n.state (pending_from (k + 1) needs)
+
+-- a node by its specification, its step and its certificates
+abbrev pub needs_at : Context → Option Spec → Option Step → (ℕ → Option Cert) → List Need
+needs_at context None s certs = []
+needs_at context (Some w) None certs = []
+needs_at context (Some w) (Some s) certs = needs_from 1 (applied context w s).obligations certs
+
+abbrev pub status_at : Option Spec → Option Step → List Need → Status
+status_at None s needs = status.NoSpec
+status_at (Some w) None needs = status.Open
+status_at (Some w) (Some s) needs = pending_from 1 needs
+
+-- the root of the main tree, by the live edits
+abbrev pub root_needs : List Edit → List Need
+root_needs l = needs_at (main_context (globals_of l)) (root_of l) (step_at l []) (cert_at l [])
+
+abbrev pub root_status : List Edit → Status
+root_status l = status_at (root_of l) (step_at l []) (root_needs l)
+
+abbrev pub root_mark : List Edit → NodeMark
+root_mark l = record {
+  place = record { tree = tree.Main; path = record { kids = [] } };
+  status = root_status l;
+  spec = root_of l;
+  needs = root_needs l;
+}
+
+-- what checking anew tells: no step has kids yet, so the root is the one node
+abbrev pub anew : List Edit → Statuses
+anew l = record { nodes = root_mark l ∷ [] }
+
+-- the derivation is closed: each node is good
+abbrev pub IsClosed : List Edit → Type 0
+IsClosed l = root_status l ≡ status.Good

@@ -1,0 +1,47 @@
+//! Why an edit is refused.
+
+ghost use Rattle.std.specs.Prelude.{◌≡◌};
+ghost use Rattle.rw_tree.specs.declared.refusal.EditRefusal.TheVariants as refusal;
+ghost use Rattle.rw_tree.specs.declared.refusal.TreeError.TheVariants as tree_error;
+
+use crate::edit::Place;
+use rw_terms::name::Name;
+use std::alloc::AllocError;
+use thiserror::Error;
+
+/// The first test that refuses an edit.
+#[derive(Drop)]
+pub enum EditRefusal {
+    /// A name that is not declared.
+    Unknown(Name),
+    /// A name that is declared already.
+    Duplicate(Name),
+    /// The place is no node.
+    NoNode(Place),
+    /// The node has no obligation of this number.
+    NoObligation(u32),
+    Memory,
+}
+
+impl From<AllocError> for EditRefusal {
+    ghost from_gives = { λ _ e. e ≡ refusal.Memory };
+
+    fn from(_: AllocError) -> EditRefusal {
+        EditRefusal::Memory
+    }
+}
+
+/// Why a project is not checked.
+#[derive(Debug, Drop, Error)]
+pub enum TreeError {
+    #[error("out of memory")]
+    Memory,
+}
+
+impl From<AllocError> for TreeError {
+    ghost from_gives = { λ _ e. e ≡ tree_error.Memory };
+
+    fn from(_: AllocError) -> TreeError {
+        TreeError::Memory
+    }
+}
