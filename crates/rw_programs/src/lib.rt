@@ -1,5 +1,6 @@
-//! Specifications, programs, and what a law makes of a specification.
+//! Specifications, programs and their meaning, and what a law makes of a specification.
 #![tactic(auto)]
 
 pub mod applied;
+pub mod laws;
 pub mod prog;
