@@ -1,11 +1,23 @@
 -- States within a frame.
-use Rattle.std.proofs.Common.{◌≡◌, refl, sym, subst, ◌∙◌, Bool, true, false, List, find, Option, Some, None}
+use Rattle.std.proofs.Common.{◌≡◌, refl, sym, subst, ◌∙◌, Bool, true, false, List, [], ◌∷◌, find, Option, Some, None, ◌||◌, true≢false}
+use Rattle.std.specs.Prelude.{bytes_eq}
 use Rattle.rw_terms.specs.declared.term.Sort.{Sort}
 use Rattle.rw_terms.specs.declared.term.Sort.TheVariants.{Int, Array}
 use Rattle.rw_terms.specs.declared.scope.Entry.{Entry}
-use Rattle.rw_terms.specs.State.{Value, Whole, Cells, HasSort, FitsEntry}
+use Rattle.rw_terms.specs.State.{Value, Whole, Cells, HasSort, FitsEntry, State as Map}
 use Rattle.rw_terms.specs.Scopes.{has_name}
-use Rattle.rw_programs.specs.State.{Name, State, Fits, SameSort, Within, is_in}
+use Rattle.rw_programs.specs.State.{Name, State, Fits, SameSort, Within, is_in, put_all}
+
+-- a name outside the list keeps what it has
+pub put_all_off : (xs : List Name) (vs : List (Option Value)) (m : Map) (x : Name) → is_in x xs ≡ false → put_all xs vs m x ≡ m x
+put_all_off [] vs m x h = refl
+put_all_off (y ∷ ys) vs m x h = go (bytes_eq x y) refl h vs (λ vs h. put_all_off ys vs m x h)
+  where
+    go : (b : Bool) → bytes_eq x y ≡ b → (b || is_in x ys) ≡ false → (vs : List (Option Value))
+        → ((vs : List (Option Value)) → is_in x ys ≡ false → put_all ys vs m x ≡ m x) → put_all (y ∷ ys) vs m x ≡ m x
+    go true e h vs ih = absurd (true≢false h)
+    go false e h [] ih = rw e (ih [] h)
+    go false e h (v ∷ vs) ih = rw e (ih vs h)
 
 -- a value that has the sort of another that has a known sort
 sort_moves : (a b : Sort) (u v : Value) → HasSort u a → HasSort u b → HasSort v b → HasSort v a

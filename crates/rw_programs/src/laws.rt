@@ -3,13 +3,16 @@
 ghost use Rattle.std.specs.Prelude.{ℕ, List};
 ghost use Rattle.rw_terms.specs.declared.scope.Entry.{Entry};
 ghost use Rattle.rw_terms.specs.declared.term.Formula.{Formula};
+ghost use Rattle.rw_terms.specs.declared.term.Term.{Term};
+ghost use Rattle.rw_terms.specs.State.{State as Map};
 ghost use Rattle.rw_programs.specs.declared.prog.Prog.{Prog};
 ghost use Rattle.rw_programs.specs.declared.prog.Spec.{Spec};
-ghost use Rattle.rw_programs.specs.State.{State, Fits, Holds};
+ghost use Rattle.rw_programs.specs.State.{Name, State, Fits, Holds};
 ghost use Rattle.rw_programs.specs.Tables.{Table};
 ghost use Rattle.rw_programs.specs.Meaning.{MayEnd};
-ghost use Rattle.rw_programs.specs.Refine.{Wp, WpAt, BetterAt, Refines, RefinesAt};
-ghost use Rattle.rw_programs.specs.Laws.{Follows};
+ghost use Rattle.rw_programs.specs.Refine.{Wp, WpAt, BetterAt, Refines, RefinesAt, RefinesGiven};
+ghost use Rattle.rw_programs.specs.Laws.{Follows, FollowsAfter, IsInitialFree, KeepsValues, AssignFits};
+ghost use Rattle.rw_programs.specs.Made.{Seq};
 
 /// A set of states.
 pub trait States {
@@ -58,4 +61,44 @@ pub fn skip()
         → Follows scope E.library w.pre (λ s. ¬ (¬ (Holds E.library w.post s s))) → RefinesAt scope E p k (Prog.Spec w) F q j Prog.Skip }
     ensures past_all { (scope : List Entry) (E F : Table) (w : Spec)
         → Follows scope E.library w.pre (λ s. ¬ (¬ (Holds E.library w.post s s))) → Refines scope (Prog.Spec w) E Prog.Skip F }
+{}
+
+/// Refinement is refinement for all values of the names of kind value.
+pub fn refinement_for_all_values()
+    ensures given { (fixed : Map) (scope : List Entry) (E F : Table) (p k q j : ℕ) (c d : Prog)
+        → RefinesAt scope E p k c F q j d → RefinesGiven fixed scope E p k c F q j d }
+    ensures all { (scope : List Entry) (E F : Table) (p k q j : ℕ) (c d : Prog)
+        → ((fixed : Map) → RefinesGiven fixed scope E p k c F q j d) → RefinesAt scope E p k c F q j d }
+{}
+
+/// The law of a weaker precondition, for any program of the kid.
+pub fn weaken()
+    ensures { (fixed : Map) (scope : List Entry) (E : Table) (p k : ℕ) (w : List Name) (pre post f : Formula) (c : Prog)
+        → Follows scope E.library pre (λ s. ¬ (¬ (Holds E.library f s s)))
+        → RefinesGiven fixed scope E p k (Prog.Spec (record { frame = w; pre = f; post = post })) E p k c
+        → RefinesGiven fixed scope E p k (Prog.Spec (record { frame = w; pre = pre; post = post })) E p k c }
+{}
+
+/// The law of a stronger postcondition, for any program of the kid.
+pub fn strengthen()
+    ensures { (fixed : Map) (scope : List Entry) (E : Table) (p k : ℕ) (w : List Name) (pre post f : Formula) (c : Prog)
+        → FollowsAfter scope E.library w pre f post
+        → RefinesGiven fixed scope E p k (Prog.Spec (record { frame = w; pre = pre; post = f })) E p k c
+        → RefinesGiven fixed scope E p k (Prog.Spec (record { frame = w; pre = pre; post = post })) E p k c }
+{}
+
+/// The law of assignment.
+pub fn assign()
+    ensures { (fixed : Map) (scope : List Entry) (E : Table) (p k : ℕ) (w : List Name) (pre post : Formula) (names : List Name) (terms : List Term)
+        → AssignFits scope E.library w pre post names terms
+        → RefinesGiven fixed scope E p k (Prog.Spec (record { frame = w; pre = pre; post = post })) E p k (Prog.Assign names terms) }
+{}
+
+/// The law of sequences, for any programs of the kids.
+pub fn sequence()
+    ensures { (fixed : Map) (scope : List Entry) (E : Table) (p k : ℕ) (w : List Name) (pre mid post : Formula) (c d : Prog)
+        → KeepsValues scope w → IsInitialFree E.library mid → IsInitialFree E.library post
+        → RefinesGiven fixed scope E p k (Prog.Spec (record { frame = w; pre = pre; post = mid })) E p k c
+        → RefinesGiven fixed scope E p k (Prog.Spec (record { frame = w; pre = mid; post = post })) E p k d
+        → RefinesGiven fixed scope E p k (Prog.Spec (record { frame = w; pre = pre; post = post })) E p k (Seq c d) }
 {}
