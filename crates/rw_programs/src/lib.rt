@@ -1,6 +1,7 @@
-//! Specifications, programs, and what a law makes of a specification.
+//! Specifications, programs and their meaning, and what a law makes of a specification.
 #![tactic(auto)]
 
 pub mod applied;
 pub mod copying;
+pub mod laws;
 pub mod prog;

@@ -1,0 +1,6 @@
+pub mod Made
+pub mod State
+pub mod Tables
+pub mod Meaning
+pub mod Refine
+pub mod Laws
