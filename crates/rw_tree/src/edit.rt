@@ -1,6 +1,7 @@
 //! Places and edits.
 
 ghost use Rattle.std.specs.Prelude.{◌≡◌, IfOk};
+ghost use Rattle.rw_tree.specs.Edits.{obligations_of};
 
 use rw_items::Items;
 use rw_laws::step::BasicStep;
@@ -40,6 +41,15 @@ impl Step {
     {
         match self {
             Step::Basic(step) => Ok(Step::Basic(step.copy(alloc)?)),
+        }
+    }
+
+    /// How many obligations the step has. It takes no memory.
+    pub fn obligations(&self) -> usize
+        ensures { result ≡ obligations_of self.now }
+    {
+        match self {
+            Step::Basic(BasicStep::Skip) => 1,
         }
     }
 }

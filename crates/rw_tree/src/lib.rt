@@ -2,3 +2,7 @@
 #![tactic(auto)]
 
 pub mod edit;
+pub mod parts;
+pub mod refusal;
+pub mod status;
+pub mod unknown;
