@@ -74,6 +74,12 @@ impl Scope {
         }
     }
 
+    pub fn entries(&self) -> &[Entry]
+        ensures { result.now ≡ self.now }
+    {
+        self.entries.as_slice()
+    }
+
     /// The entry of a name.
     pub fn find(&self, name: &Name) -> Option<&Entry>
         ensures { option_copied result ≡ find (has_name name.now) self.now }
