@@ -1,16 +1,9 @@
 -- Validity of a sequent.
-use Rattle.std.specs.Prelude.{ℕ, Bool, List, [], ◌∷◌, find, Option, Some, None, bytes_eq}
-use Rattle.rw_terms.specs.declared.term.Sort.{Sort}
+use Rattle.std.specs.Prelude.{ℕ, List, [], ◌∷◌, find, Option, Some, None}
 use Rattle.rw_terms.specs.declared.sequent.Sequent.{Sequent}
+use Rattle.rw_terms.specs.Named.{Named, is_named}
 use Rattle.rw_terms.specs.State.{Value, State, HasSort}
 use Rattle.rw_terms.specs.Truth.{Definition, holds}
-
--- a name with its sort
-abbrev pub Named : Type 0
-Named = List ℕ × Sort
-
-abbrev pub is_named : List ℕ → Named → Bool
-is_named x named = bytes_eq named.0 x
 
 -- a value of the sort where a name is there, and none where it is not
 abbrev pub FitsNamed : Option Named → Option Value → Type 0

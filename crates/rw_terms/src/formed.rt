@@ -2,8 +2,8 @@
 
 ghost use Rattle.std.specs.Prelude.{◌≡◌, ◌+◌, ◌≤◌, ◌⊎◌, [], ◌∷◌, map, find, IfOk, IfErr, option_copied};
 ghost use Rattle.rw_terms.specs.Size.{term_weight, terms_weight};
-ghost use Rattle.rw_terms.specs.Sorts.{look, two};
-ghost use Rattle.rw_terms.specs.Formed.{formula_look, may_equal, may_be, same_sort, is_sort, is_head, takes, first_fault, equation, application, IsFormed, IsFormedRefusal};
+ghost use Rattle.rw_terms.specs.Sorts.{sort_report, binary};
+ghost use Rattle.rw_terms.specs.Formed.{formula_report, may_equal, may_be, same_sort, is_sort, is_head, takes, first_fault, equation, application, IsFormed, IsFormedRefusal};
 
 use crate::error::TermError;
 use crate::measure;
@@ -14,7 +14,8 @@ use crate::term::{Formula, Sort, Term};
 use rw_items::Items;
 use std::alloc::{AllocError, Global};
 
-/// Tests the rules of sorts: the first part in preorder that breaks one is the refusal.
+/// Tests the rules of sorts: the first part in preorder that breaks one is the refusal, its number counted from 1.
+/// The limits are tested before the rules.
 pub fn well_formed(
     alloc: Global,
     scope: &Scope,
@@ -40,10 +41,10 @@ fn check_formula(
     formula: &Formula,
     place: u32,
 ) -> Result<u32, TermError>
-    requires { place + (formula_look scope.now heads.now formula.now).parts ≤ u32.MAX }
-    ensures next { IfOk result (λ next. next ≡ place + (formula_look scope.now heads.now formula.now).parts) }
-    ensures none { IfOk result (λ _. (formula_look scope.now heads.now formula.now).fault binders.now place ≡ None) }
-    ensures fault { IfErr result (λ e. (e ≡ TermError.Memory) ⊎ ((formula_look scope.now heads.now formula.now).fault binders.now place ≡ Some e)) }
+    requires { place + (formula_report scope.now heads.now formula.now).parts ≤ u32.MAX }
+    ensures next { IfOk result (λ next. next ≡ place + (formula_report scope.now heads.now formula.now).parts) }
+    ensures none { IfOk result (λ _. (formula_report scope.now heads.now formula.now).fault binders.now place ≡ None) }
+    ensures fault { IfErr result (λ e. (e ≡ TermError.Memory) ⊎ ((formula_report scope.now heads.now formula.now).fault binders.now place ≡ Some e)) }
 {
     match formula {
         Formula::True | Formula::False => Ok(place + 1),
@@ -79,8 +80,8 @@ fn check_equation(
 ) -> Result<u32, TermError>
     requires { place + (term_weight t.now + term_weight u.now + 1) ≤ u32.MAX }
     ensures next { IfOk result (λ next. next ≡ place + (term_weight t.now + term_weight u.now + 1)) }
-    ensures none { IfOk result (λ _. equation (look scope.now binders.now t.now) (look scope.now binders.now u.now) place ≡ None) }
-    ensures fault { IfErr result (λ e. equation (look scope.now binders.now t.now) (look scope.now binders.now u.now) place ≡ Some e) }
+    ensures none { IfOk result (λ _. equation (sort_report scope.now binders.now t.now) (sort_report scope.now binders.now u.now) place ≡ None) }
+    ensures fault { IfErr result (λ e. equation (sort_report scope.now binders.now t.now) (sort_report scope.now binders.now u.now) place ≡ Some e) }
 {
     let fits = may_equal(given_sort(scope, binders, t), given_sort(scope, binders, u));
     let next = holds(fits, place)?;
@@ -145,8 +146,8 @@ fn check_order(
 ) -> Result<u32, TermError>
     requires { place + (term_weight t.now + term_weight u.now + 1) ≤ u32.MAX }
     ensures next { IfOk result (λ next. next ≡ place + (term_weight t.now + term_weight u.now + 1)) }
-    ensures none { IfOk result (λ _. (two (look scope.now binders.now t.now) (look scope.now binders.now u.now)).fault place ≡ None) }
-    ensures fault { IfErr result (λ e. (two (look scope.now binders.now t.now) (look scope.now binders.now u.now)).fault place ≡ Some e) }
+    ensures none { IfOk result (λ _. (binary (sort_report scope.now binders.now t.now) (sort_report scope.now binders.now u.now)).fault place ≡ None) }
+    ensures fault { IfErr result (λ e. (binary (sort_report scope.now binders.now t.now) (sort_report scope.now binders.now u.now)).fault place ≡ Some e) }
 {
     let ints = is_int(given_sort(scope, binders, t)) && is_int(given_sort(scope, binders, u));
     let next = holds(ints, place)?;
@@ -164,8 +165,8 @@ fn check_application(
 ) -> Result<u32, TermError>
     requires { place + terms_weight args.now + 1 ≤ u32.MAX }
     ensures next { IfOk result (λ next. next ≡ place + (terms_weight args.now + 1)) }
-    ensures none { IfOk result (λ _. application (option_copied head.entry) name.now (map (look scope.now binders.now) args.now) place ≡ None) }
-    ensures fault { IfErr result (λ e. application (option_copied head.entry) name.now (map (look scope.now binders.now) args.now) place ≡ Some e) }
+    ensures none { IfOk result (λ _. application (option_copied head.entry) name.now (map (sort_report scope.now binders.now) args.now) place ≡ None) }
+    ensures fault { IfErr result (λ e. application (option_copied head.entry) name.now (map (sort_report scope.now binders.now) args.now) place ≡ Some e) }
 {
     match head {
         Some(head) => {
@@ -177,7 +178,7 @@ fn check_application(
 }
 
 fn takes(scope: &Scope, binders: &[Sort], sorts: &[Sort], args: &[Term]) -> bool
-    ensures { result ≡ takes sorts.now (map (look scope.now binders.now) args.now) }
+    ensures { result ≡ takes sorts.now (map (sort_report scope.now binders.now) args.now) }
 {
     if sorts.len() != args.len() {
         return false;
@@ -193,8 +194,8 @@ fn takes(scope: &Scope, binders: &[Sort], sorts: &[Sort], args: &[Term]) -> bool
 fn check_terms(scope: &Scope, binders: &[Sort], args: &[Term], place: u32) -> Result<u32, TermError>
     requires { place + terms_weight args.now ≤ u32.MAX }
     ensures next { IfOk result (λ next. next ≡ place + terms_weight args.now) }
-    ensures none { IfOk result (λ _. first_fault (map (look scope.now binders.now) args.now) place ≡ None) }
-    ensures fault { IfErr result (λ e. first_fault (map (look scope.now binders.now) args.now) place ≡ Some e) }
+    ensures none { IfOk result (λ _. first_fault (map (sort_report scope.now binders.now) args.now) place ≡ None) }
+    ensures fault { IfErr result (λ e. first_fault (map (sort_report scope.now binders.now) args.now) place ≡ Some e) }
 {
     let mut next = place;
     for arg in args {

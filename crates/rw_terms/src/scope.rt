@@ -50,6 +50,29 @@ pub struct Head {
     pub sorts: Items<Sort>,
 }
 
+impl Head {
+    /// The same head again.
+    pub fn copy(&self, alloc: Global) -> Result<Head, AllocError>
+        ensures { IfOk result (λ h. h ≡ self.now) }
+    {
+        Ok(Head {
+            name: self.name.copy(),
+            sorts: Items::from_slice(alloc, self.sorts.as_slice())?,
+        })
+    }
+}
+
+/// The same heads again.
+pub fn copy_heads(alloc: Global, heads: &[Head]) -> Result<Items<Head>, AllocError>
+    ensures { IfOk result (λ hs. hs ≡ heads.now) }
+{
+    let mut copies = Items::new(alloc);
+    for head in heads {
+        copies.push(head.copy(alloc)?)?;
+    }
+    Ok(copies)
+}
+
 /// Names in order, with no name twice.
 #[derive(Drop)]
 pub struct Scope {
@@ -74,6 +97,12 @@ impl Scope {
         }
     }
 
+    pub fn entries(&self) -> &[Entry]
+        ensures { result.now ≡ self.now }
+    {
+        self.entries.as_slice()
+    }
+
     /// The entry of a name.
     pub fn find(&self, name: &Name) -> Option<&Entry>
         ensures { option_copied result ≡ find (has_name name.now) self.now }
@@ -84,6 +113,15 @@ impl Scope {
             }
         }
         None
+    }
+
+    /// The same scope again.
+    pub fn copy(&self, alloc: Global) -> Result<Scope, AllocError>
+        ensures { IfOk result (λ s. s ≡ self.now) }
+    {
+        Ok(Scope {
+            entries: copy_entries(alloc, self.entries.as_slice())?,
+        })
     }
 
     /// The scope with one more name.

@@ -2,14 +2,14 @@
 
 ghost use Rattle.std.specs.Prelude.{◌≡◌, ◌+◌, ◌≤◌, ◌<◌, ◌⊎◌, min, [], Some, None, slice_get, IfOk, IfErr};
 ghost use Rattle.rw_terms.specs.Size.{term_weight, term_depth};
-ghost use Rattle.rw_terms.specs.Sorts.{Look, look, may_be_int, may_be_array, variable_sort, constant_sort, unless, named};
-ghost use Rattle.rw_terms.specs.Sorted.{Answers, IsRefusal};
+ghost use Rattle.rw_terms.specs.Sorts.{SortReport, sort_report, may_be_int, may_be_array, variable_sort, constant_sort, unless, named};
+ghost use Rattle.rw_terms.specs.Sorted.{IsOfSort, IsSortRefusal};
 ghost use Rattle.rw_terms.specs.Typed.{ValuesHaveSort};
 
 use crate::error::TermError;
 use crate::measure;
 use crate::name::Name;
-use crate::scope::{Kind, Scope};
+use crate::scope::{Head, Kind, Scope};
 use crate::term::{Sort, Term};
 use rw_items::at;
 
@@ -19,11 +19,12 @@ pub const MOST_PARTS: u32 = 1024;
 /// The parts that a path of a term may have.
 pub const MOST_DEPTH: u32 = 64;
 
-/// The sort of a term, or the first of its parts in preorder that breaks a rule.
-pub fn sort_of(scope: &Scope, term: &Term) -> Result<Sort, TermError>
-    ensures sort { IfOk result (Answers scope.now [] term.now) }
+/// The sort of a term, or the first of its parts in preorder that breaks a rule: its number counts from 1.
+/// The limits are tested before the rules. A function is unknown, whatever the heads are.
+pub fn sort_of(scope: &Scope, heads: &[Head], term: &Term) -> Result<Sort, TermError>
+    ensures sort { IfOk result (IsOfSort scope.now [] term.now) }
     ensures values { IfOk result (ValuesHaveSort scope.now term.now) }
-    ensures err { IfErr result (IsRefusal scope.now [] term.now) }
+    ensures err { IfErr result (IsSortRefusal scope.now [] term.now) }
 {
     let weight = measure::weight_of_term(term);
     if weight > MOST_PARTS || measure::depth_of_term(term) > MOST_DEPTH {
@@ -44,10 +45,10 @@ pub fn check_counted(
     place: u32,
 ) -> Result<u32, TermError>
     requires { place + term_weight term.now ≤ u32.MAX }
-    ensures parts { (look scope.now binders.now term.now).parts ≡ term_weight term.now }
+    ensures parts { (sort_report scope.now binders.now term.now).parts ≡ term_weight term.now }
     ensures next { IfOk result (λ next. next ≡ place + term_weight term.now) }
-    ensures none { IfOk result (λ _. (look scope.now binders.now term.now).fault place ≡ None) }
-    ensures fault { IfErr result (λ e. (look scope.now binders.now term.now).fault place ≡ Some e) }
+    ensures none { IfOk result (λ _. (sort_report scope.now binders.now term.now).fault place ≡ None) }
+    ensures fault { IfErr result (λ e. (sort_report scope.now binders.now term.now).fault place ≡ Some e) }
 {
     check_term(scope, binders, term, place)
 }
@@ -59,10 +60,10 @@ pub fn check_term(
     term: &Term,
     place: u32,
 ) -> Result<u32, TermError>
-    requires { place + (look scope.now binders.now term.now).parts ≤ u32.MAX }
-    ensures next { IfOk result (λ next. next ≡ place + (look scope.now binders.now term.now).parts) }
-    ensures none { IfOk result (λ _. (look scope.now binders.now term.now).fault place ≡ None) }
-    ensures fault { IfErr result (λ e. (look scope.now binders.now term.now).fault place ≡ Some e) }
+    requires { place + (sort_report scope.now binders.now term.now).parts ≤ u32.MAX }
+    ensures next { IfOk result (λ next. next ≡ place + (sort_report scope.now binders.now term.now).parts) }
+    ensures none { IfOk result (λ _. (sort_report scope.now binders.now term.now).fault place ≡ None) }
+    ensures fault { IfErr result (λ e. (sort_report scope.now binders.now term.now).fault place ≡ Some e) }
 {
     match term {
         Term::Lit(n) => holds(*n >= 0, place),
@@ -102,7 +103,7 @@ pub fn check_term(
 
 // The sort that a term gives, if its rules are kept.
 pub fn given_sort(scope: &Scope, binders: &[Sort], term: &Term) -> Option<Sort>
-    ensures { result ≡ (look scope.now binders.now term.now).sort }
+    ensures { result ≡ (sort_report scope.now binders.now term.now).sort }
 {
     match term {
         Term::Var(x) | Term::Init(x) => variable(scope, x),
