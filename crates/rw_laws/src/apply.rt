@@ -24,16 +24,32 @@ pub fn apply(
     ensures ok { IfOk result (λ a. a ≡ law_of context.now spec.now step.now) }
     ensures err { IfErr result (λ e. e ≡ ApplyError.Memory) }
 {
+    let obligations = obligations(alloc, context, spec, step)?;
+    match step {
+        BasicStep::Skip => Ok(Applied {
+            skeleton: Prog::Skip,
+            children: Items::new(alloc),
+            obligations,
+        }),
+    }
+}
+
+/// What is to be shown for the step alone, without skeleton and kids.
+pub fn obligations(
+    alloc: Global,
+    context: &Context,
+    spec: &Spec,
+    step: &BasicStep,
+) -> Result<Items<Sequent>, ApplyError>
+    ensures ok { IfOk result (λ qs. qs ≡ (law_of context.now spec.now step.now).obligations) }
+    ensures err { IfErr result (λ e. e ≡ ApplyError.Memory) }
+{
     match step {
         BasicStep::Skip => {
             let obligation = sequent_over(alloc, &context.scope, &spec.pre, &spec.post)?;
             let mut obligations = Items::new(alloc);
             obligations.push(obligation)?;
-            Ok(Applied {
-                skeleton: Prog::Skip,
-                children: Items::new(alloc),
-                obligations,
-            })
+            Ok(obligations)
         }
     }
 }

@@ -97,6 +97,13 @@ impl Scope {
         }
     }
 
+    /// The scope of these entries, whose names are to differ.
+    pub fn of_entries(entries: Items<Entry>) -> Scope
+        ensures { result ≡ entries }
+    {
+        Scope { entries }
+    }
+
     pub fn entries(&self) -> &[Entry]
         ensures { result.now ≡ self.now }
     {

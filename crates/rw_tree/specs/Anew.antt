@@ -16,6 +16,7 @@ use Rattle.rw_laws.specs.Laws.{law_of}
 use Rattle.rw_tree.specs.declared.edit.Edit.{Edit}
 use Rattle.rw_tree.specs.declared.edit.Step.{Step}
 use Rattle.rw_tree.specs.declared.edit.Step.TheVariants as step
+use Rattle.rw_tree.specs.declared.edit.Place.{Place}
 use Rattle.rw_tree.specs.declared.edit.TreeName.TheVariants as tree
 use Rattle.rw_tree.specs.declared.status.NeedState.{NeedState}
 use Rattle.rw_tree.specs.declared.status.NeedState.TheVariants as need
@@ -31,7 +32,7 @@ abbrev pub global : Param → Entry
 global p = record { name = p.name; sort = p.sort; kind = kind.Global }
 
 -- where the main tree stands: its scope is the globals
-abbrev pub main_context : List Param → Context
+unfoldable pub main_context : List Param → Context
 main_context globals = record { scope = map global globals; opened = []; order = 4294967295; inner = false }
 
 -- what the law of a step makes of a specification
@@ -64,11 +65,14 @@ abbrev pub pending_from : ℕ → List Need → Status
 pending_from k [] = status.Good
 pending_from k (n ∷ needs) = held_up k n.state (pending_from (k + 1) needs)
 
--- a node by its specification, its step and its certificates
+-- the obligations of a node with their states, by its specification, its step and its certificates
+unfoldable pub needs_for : Context → Spec → Step → (ℕ → Option Cert) → List Need
+needs_for context w s certs = needs_from 1 (applied context w s).obligations certs
+
 abbrev pub needs_at : Context → Option Spec → Option Step → (ℕ → Option Cert) → List Need
 needs_at context None s certs = []
 needs_at context (Some w) None certs = []
-needs_at context (Some w) (Some s) certs = needs_from 1 (applied context w s).obligations certs
+needs_at context (Some w) (Some s) certs = needs_for context w s certs
 
 abbrev pub status_at : Option Spec → Option Step → List Need → Status
 status_at None s needs = status.NoSpec
@@ -82,9 +86,12 @@ root_needs l = needs_at (main_context (globals_of l)) (root_of l) (step_at l [])
 abbrev pub root_status : List Edit → Status
 root_status l = status_at (root_of l) (step_at l []) (root_needs l)
 
+abbrev pub root_place : Place
+root_place = record { tree = tree.Main; path = record { kids = [] } }
+
 abbrev pub root_mark : List Edit → NodeMark
 root_mark l = record {
-  place = record { tree = tree.Main; path = record { kids = [] } };
+  place = root_place;
   status = root_status l;
   spec = root_of l;
   needs = root_needs l;

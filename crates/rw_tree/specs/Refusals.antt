@@ -1,13 +1,15 @@
 -- Which test refuses an edit after a list of edits.
-use Rattle.std.specs.Prelude.{◌≡◌, ℕ, Bool, ◌&&◌, if◌then◌else◌, nat_le, List, [], ◌∷◌, map, Option, Some, None, bytes_eq}
+use Rattle.std.specs.Prelude.{◌≡◌, ℕ, Bool, ◌&&◌, if◌then◌else◌, nat_le, length, List, [], ◌∷◌, map, Option, Some, None, bytes_eq}
 use Rattle.std.specs.List.{list_any}
 use Rattle.rw_programs.specs.declared.prog.Param.{Param}
 use Rattle.rw_programs.specs.declared.prog.Spec.{Spec}
+use Rattle.rw_sequents.specs.declared.line.Cert.{Cert}
 use Rattle.rw_tree.specs.declared.edit.Place.{Place}
 use Rattle.rw_tree.specs.declared.edit.Edit.{Edit}
 use Rattle.rw_tree.specs.declared.edit.Edit.TheVariants as edit
 use Rattle.rw_tree.specs.declared.refusal.EditRefusal.{EditRefusal}
 use Rattle.rw_tree.specs.declared.refusal.EditRefusal.TheVariants as refusal
+use Rattle.rw_tree.specs.declared.refusal.Which.TheVariants as which
 use Rattle.rw_tree.specs.Edits.{globals_of, step_at, obligations_in, is_node}
 use Rattle.rw_tree.specs.Unknown.{or_else, first_there, unless_declared, formula_unknown}
 
@@ -32,12 +34,16 @@ at_node l q ask = if is_node l q.path.kids then ask else Some (refusal.NoNode q)
 abbrev pub has_obligation : List Edit → List ℕ → ℕ → Bool
 has_obligation l p k = nat_le 1 k && nat_le k (obligations_in (step_at l p))
 
+-- a certificate has at most 4096 lines
+abbrev pub too_long : Cert → Option EditRefusal
+too_long c = if nat_le (length c.lines) 4096 then None else Some (refusal.Limit which.Lines 4096)
+
 -- the first test that refuses the edit after the list, if one does
 abbrev pub refusal_of : List Edit → Edit → Option EditRefusal
 refusal_of l (edit.Var p) = if is_param (globals_of l) p.name then Some (refusal.Duplicate p.name) else None
 refusal_of l (edit.Root w) = unknown (spec_unknown (is_param (globals_of l)) w)
 refusal_of l (edit.Step q s) = at_node l q None
-refusal_of l (edit.Prove q k c) = at_node l q (if has_obligation l q.path.kids k then None else Some (refusal.NoObligation k))
+refusal_of l (edit.Prove q k c) = at_node l q (if has_obligation l q.path.kids k then too_long c else Some (refusal.NoObligation k))
 
 -- no test refuses the edit after the list
 abbrev pub Accepts : List Edit → Edit → Type 0

@@ -1,6 +1,7 @@
 //! Projects: edits, the derivation that they make, and checking it anew.
 #![tactic(auto)]
 
+pub mod anew;
 pub mod edit;
 pub mod parts;
 pub mod refusal;

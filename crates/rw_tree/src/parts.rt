@@ -1,18 +1,20 @@
 //! A project without statuses, and what an edit does to it.
 
-ghost use Rattle.std.specs.Prelude.{◌≡◌, ◌≤◌, ◌⊎◌, [], OnOk, OnErr, IfOk, IfErr, length};
+ghost use Rattle.std.specs.Prelude.{◌≡◌, ◌≤◌, ◌⊎◌, List, [], ◌∷◌, OnOk, OnErr, IfOk, IfErr, length, take, replicate, Some, None};
 ghost use Rattle.rw_tree.specs.Edits.{obligations_of};
-ghost use Rattle.rw_tree.specs.Refusals.{refusal_of};
-ghost use Rattle.rw_tree.specs.Parts.{Makes, resized, with_step, with_cert, applied_to, refusal_in};
+ghost use Rattle.rw_tree.specs.Refusals.{refusal_of, too_long};
+ghost use Rattle.rw_tree.specs.Parts.{Makes, resized, with_step, with_cert, applied_to, refusal_in, no_node, no_obligation};
 ghost use Rattle.rw_tree.specs.declared.edit.Edit.{Edit};
 
 use crate::edit::{Edit, Place, Step};
-use crate::refusal::EditRefusal;
+use crate::refusal::{EditRefusal, Which};
 use crate::unknown::{is_param, spec_unknown};
 use rw_items::Items;
 use rw_programs::prog::{Param, Spec};
 use rw_sequents::line::Cert;
 use std::alloc::{AllocError, Global};
+
+const MOST_LINES: u32 = 4096;
 
 /// A node: its step, and a certificate or none for each obligation of the step.
 #[derive(Drop)]
@@ -67,9 +69,9 @@ fn refusal_in(alloc: Global, parts: &Parts, edit: &Edit) -> Result<Option<EditRe
         Edit::Var(param) => Ok(duplicate(parts, param)),
         Edit::Root(spec) => Ok(unknown(parts, spec)),
         Edit::Step(place, _) => no_node(alloc, place),
-        Edit::Prove(place, number, _) => match no_node(alloc, place)? {
+        Edit::Prove(place, number, cert) => match no_node(alloc, place)? {
             Some(refusal) => Ok(Some(refusal)),
-            None => Ok(no_obligation(parts, *number)),
+            None => Ok(no_obligation(parts, *number, cert)),
         },
     }
 }
@@ -104,13 +106,22 @@ fn no_node(alloc: Global, place: &Place) -> Result<Option<EditRefusal>, AllocErr
     }
 }
 
-fn no_obligation(parts: &Parts, number: u32) -> Option<EditRefusal>
-    ensures { result ≡ no_obligation parts.now number }
+fn no_obligation(parts: &Parts, number: u32, cert: &Cert) -> Option<EditRefusal>
+    ensures { result ≡ no_obligation parts.now number cert.now }
 {
     if number == 0 || number as usize > parts.main.certs.len() {
-        Some(EditRefusal::NoObligation(number))
-    } else {
+        return Some(EditRefusal::NoObligation(number));
+    }
+    too_long(cert)
+}
+
+fn too_long(cert: &Cert) -> Option<EditRefusal>
+    ensures { result ≡ too_long cert.now }
+{
+    if cert.lines.len() <= MOST_LINES as usize {
         None
+    } else {
+        Some(EditRefusal::Limit(Which::Lines, MOST_LINES))
     }
 }
 

@@ -9,6 +9,25 @@ use rw_terms::name::Name;
 use std::alloc::AllocError;
 use thiserror::Error;
 
+/// A quantity with a limit, in the order in which limits are tested.
+#[derive(Clone, Copy, Debug, PartialEq, Eq)]
+pub enum Which {
+    Weight,
+    Depth,
+    Globals,
+    Params,
+    Table,
+    Operations,
+    Guards,
+    Nodes,
+    Path,
+    Lines,
+    Edits,
+    Bytes,
+    Authors,
+    Steps,
+}
+
 /// The first test that refuses an edit.
 #[derive(Drop)]
 pub enum EditRefusal {
@@ -20,6 +39,8 @@ pub enum EditRefusal {
     NoNode(Place),
     /// The node has no obligation of this number.
     NoObligation(u32),
+    /// The quantity would pass this limit.
+    Limit(Which, u32),
     Memory,
 }
 

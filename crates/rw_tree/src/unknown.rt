@@ -31,7 +31,7 @@ pub fn is_param(params: &[Param], name: &Name) -> bool
 }
 
 fn or_else<'a>(one: Option<&'a Name>, other: Option<&'a Name>) -> Option<&'a Name>
-    ensures { option_copied result ≡ or_else (option_copied one) (option_copied other) }
+    ensures { option_copied result ≡ or_else (option_copied one.entry) (option_copied other.entry) }
 {
     match one {
         Some(name) => Some(name),

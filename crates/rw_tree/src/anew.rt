@@ -1,0 +1,234 @@
+//! Checking a project anew.
+
+ghost use Rattle.std.specs.Prelude.{◌≡◌, ◌≤◌, ◌<◌, ◌+◌, ℕ, List, [], IfOk, IfErr, Option, option_copied, length, map};
+ghost use Rattle.rw_sequents.specs.declared.line.Cert.{Cert};
+ghost use Rattle.rw_tree.specs.declared.edit.Edit.{Edit};
+ghost use Rattle.rw_tree.specs.Refusals.{IsGood};
+ghost use Rattle.rw_tree.specs.Anew.{anew, global, main_context, root_place, applied, state_by, state_of, needs_from, needs_for, needs_at, status_at, pending_from};
+ghost use Rattle.rw_tree.specs.Parts.{Makes, HasFewLines, numbered, mark_in, needs_in, status_in};
+
+use crate::edit::{Path, Place, Step, TreeName};
+use crate::parts::Parts;
+use crate::refusal::TreeError;
+use crate::status::{Need, NeedState, NodeMark, Status, Statuses};
+use rw_items::Items;
+use rw_laws::apply::obligations;
+use rw_programs::applied::Context;
+use rw_programs::prog::{Param, Spec};
+use rw_sequents::check::check;
+use rw_sequents::line::{Cert, Verdict};
+use rw_steps::Steps;
+use rw_terms::scope::{Entry, Kind, Scope};
+use rw_terms::sequent::Sequent;
+use std::alloc::{AllocError, Global};
+use std::sync::ledger::Ledger;
+
+/// The status of each node, its specification, and its obligations with their states, from the roots downwards. One step is
+/// counted for each line of a certificate that is checked.
+pub fn check_anew<L: Ledger>(
+    alloc: Global,
+    parts: &Parts,
+    steps: &mut Steps<L>,
+) -> Result<Statuses, TreeError>
+    requires { (l : List Edit) × Makes l parts.now × IsGood l }
+    ensures { IfOk result (λ statuses. (l : List Edit) → Makes l parts.now → statuses ≡ anew l) }
+{
+    let mark = root_mark(alloc, parts, steps)?;
+    let mut nodes = Items::new(alloc);
+    nodes.push(mark)?;
+    Ok(Statuses { nodes })
+}
+
+fn root_mark<L: Ledger>(
+    alloc: Global,
+    parts: &Parts,
+    steps: &mut Steps<L>,
+) -> Result<NodeMark, TreeError>
+    requires { HasFewLines parts.now.main.certs }
+    ensures { IfOk result (λ mark. mark ≡ mark_in parts.now) }
+{
+    let needs = root_needs(alloc, parts, steps)?;
+    Ok(NodeMark {
+        place: root_place(alloc),
+        status: status_at(parts, needs.as_slice()),
+        spec: copy_root(alloc, parts)?,
+        needs,
+    })
+}
+
+fn root_place(alloc: Global) -> Place
+    ensures { result ≡ root_place }
+{
+    Place {
+        tree: TreeName::Main,
+        path: Path {
+            kids: Items::new(alloc),
+        },
+    }
+}
+
+fn copy_root(alloc: Global, parts: &Parts) -> Result<Option<Spec>, AllocError>
+    ensures { IfOk result (λ spec. spec ≡ parts.now.root) }
+{
+    match &parts.root {
+        Some(spec) => Ok(Some(spec.copy(alloc)?)),
+        None => Ok(None),
+    }
+}
+
+// The obligations of the root with their states; none where it has no specification or no step.
+fn root_needs<L: Ledger>(
+    alloc: Global,
+    parts: &Parts,
+    steps: &mut Steps<L>,
+) -> Result<Items<Need>, TreeError>
+    requires { HasFewLines parts.now.main.certs }
+    ensures { IfOk result (λ needs. needs ≡ needs_in parts.now) }
+{
+    match &parts.root {
+        None => Ok(Items::new(alloc)),
+        Some(spec) => match &parts.main.step {
+            None => Ok(Items::new(alloc)),
+            Some(step) => needs_for(alloc, parts, spec, step, steps),
+        },
+    }
+}
+
+#[tactic(auto, unfolding(crate::specs::Anew::needs_for))]
+fn needs_for<L: Ledger>(
+    alloc: Global,
+    parts: &Parts,
+    spec: &Spec,
+    step: &Step,
+    steps: &mut Steps<L>,
+) -> Result<Items<Need>, TreeError>
+    requires { HasFewLines parts.now.main.certs }
+    ensures { IfOk result (λ needs. needs ≡ needs_for (main_context parts.now.globals) spec.now step.now (numbered parts.now.main.certs)) }
+{
+    let context = main_context(alloc, parts.globals.as_slice())?;
+    let obligations = obligations_of(alloc, &context, spec, step)?;
+    needs_of(
+        alloc,
+        obligations.as_slice(),
+        parts.main.certs.as_slice(),
+        steps,
+    )
+}
+
+#[tactic(auto, unfolding(crate::specs::Anew::main_context))]
+fn main_context(alloc: Global, globals: &[Param]) -> Result<Context, AllocError>
+    ensures { IfOk result (λ context. context ≡ main_context globals.now) }
+{
+    Ok(Context {
+        scope: Scope::of_entries(global_entries(alloc, globals)?),
+        opened: Items::new(alloc),
+        order: u32::MAX,
+        inner: false,
+    })
+}
+
+fn global_entries(alloc: Global, globals: &[Param]) -> Result<Items<Entry>, AllocError>
+    ensures { IfOk result (λ entries. entries ≡ map global globals.now) }
+{
+    let mut entries = Items::new(alloc);
+    for param in globals {
+        entries.push(Entry {
+            name: param.name.copy(),
+            sort: param.sort,
+            kind: Kind::Global,
+        })?;
+    }
+    Ok(entries)
+}
+
+fn obligations_of(
+    alloc: Global,
+    context: &Context,
+    spec: &Spec,
+    step: &Step,
+) -> Result<Items<Sequent>, TreeError>
+    ensures { IfOk result (λ qs. qs ≡ (applied context.now spec.now step.now).obligations) }
+{
+    match step {
+        Step::Basic(step) => match obligations(alloc, context, spec, step) {
+            Ok(obligations) => Ok(obligations),
+            Err(_) => Err(TreeError::Memory),
+        },
+    }
+}
+
+fn needs_of<L: Ledger>(
+    alloc: Global,
+    obligations: &[Sequent],
+    certs: &[Option<Cert>],
+    steps: &mut Steps<L>,
+) -> Result<Items<Need>, TreeError>
+    requires { HasFewLines certs.now }
+    ensures { IfOk result (λ needs. needs ≡ needs_from 1 obligations.now (numbered certs.now)) }
+{
+    let mut needs = Items::new(alloc);
+    for at in 0..obligations.len() {
+        let sequent = obligations[at].copy(alloc)?;
+        let state = state_of(alloc, &sequent, cert_at(certs, at), steps)?;
+        needs.push(Need { sequent, state })?;
+    }
+    Ok(needs)
+}
+
+// The certificate in a place, counted from 0.
+fn cert_at(certs: &[Option<Cert>], at: usize) -> Option<&Cert>
+    ensures { option_copied result ≡ numbered certs.now (at + 1) }
+{
+    match certs.get(at) {
+        Some(cert) => cert.as_ref(),
+        None => None,
+    }
+}
+
+fn state_of<L: Ledger>(
+    alloc: Global,
+    sequent: &Sequent,
+    cert: Option<&Cert>,
+    steps: &mut Steps<L>,
+) -> Result<NeedState, TreeError>
+    requires { (c : Cert) → option_copied cert ≡ Some c → length c.lines ≤ 4096 }
+    ensures { IfOk result (λ state. state ≡ state_of sequent.now (option_copied cert.entry)) }
+{
+    match cert {
+        None => Ok(NeedState::Missing),
+        Some(cert) => match check(alloc, sequent, cert, steps) {
+            Ok(Verdict::Good) => Ok(NeedState::Good),
+            Ok(Verdict::Bad { line, sub, cause }) => Ok(NeedState::Bad(line, sub, cause)),
+            Err(_) => Err(TreeError::Memory),
+        },
+    }
+}
+
+fn status_at(parts: &Parts, needs: &[Need]) -> Status
+    requires { length needs.now < u32.MAX }
+    ensures { result ≡ status_at parts.now.root parts.now.main.step needs.now }
+{
+    match &parts.root {
+        None => Status::NoSpec,
+        Some(_) => match &parts.main.step {
+            None => Status::Open,
+            Some(_) => pending(needs),
+        },
+    }
+}
+
+// The first obligation that is not good.
+fn pending(needs: &[Need]) -> Status
+    requires { length needs.now < u32.MAX }
+    ensures { result ≡ pending_from 1 needs.now }
+{
+    let mut number: u32 = 1;
+    for need in needs {
+        match need.state {
+            NeedState::Good => {}
+            state => return Status::Pending(number, state),
+        }
+        number += 1;
+    }
+    Status::Good
+}
