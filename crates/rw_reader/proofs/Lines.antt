@@ -1,9 +1,12 @@
 -- A line is read as a request exactly where its tokens spell it, and has the fault that is told exactly where it has it.
-use Rattle.std.proofs.Common.{◌≡◌, ℕ, ◌+◌, ◌-◌, ◌≤◌, List, [], ◌∷◌, ◌++◌, length, Option, Some, None, refl, sym, ap, ◌∙◌, subst, arith, append-nil, append_assoc, length-drop, drop}
-use Rattle.std.specs.Prelude.{option_map, ◌↔◌}
+use Rattle.std.proofs.Common.{◌≡◌, ℕ, ◌+◌, ◌-◌, ◌≤◌, List, [], ◌∷◌, ◌++◌, length, Option, Some, None, refl, sym, ap, ◌∙◌, subst, arith, append-nil, append_assoc, length-drop, drop, ◌⊎◌, inl, inr}
+use Rattle.std.specs.Prelude.{option_map, ◌↔◌, Result, Ok, Err, IfOk, IfErr}
 use Rattle.rw_reader.specs.declared.request.Request.{Request}
 use Rattle.rw_reader.specs.Tokens.{Token, skip, token_at, front_token, with_next, LeadsTo}
-use Rattle.rw_reader.specs.Forms.{IsOf, request_form}
+use Rattle.rw_reader.specs.declared.request.ReadError.{ReadError}
+use Rattle.rw_reader.specs.declared.request.ReadError.TheVariants.{Syntax, Memory}
+use Rattle.rw_reader.specs.Forms.{Form, IsOf, request_form}
+use Rattle.rw_reader.specs.Progress.{Answers}
 use Rattle.rw_reader.specs.Reading.{Spells, CanGoOn, LineSpells, IsFault, Ending, whole, stops, read_form, Reading, reads, fault, told, reading}
 use Rattle.rw_reader.proofs.Grammar.{some_is, one, requests_keep}
 use Rattle.rw_reader.proofs.Endings.{whole_as, stops_as, Starts}
@@ -165,3 +168,20 @@ faults_exactly line o = (there (answer line), back (answer line))
 
 pub one_request : (ts : List Token) (r q : Request) → Spells ts r → Spells ts q → r ≡ q
 one_request ts r q a b = one request_form ts r q requests_keep a b
+
+-- what the reader's answers say
+
+pub begun : (line : List ℕ) (at : ℕ) → drop at line ≡ skip line → reading line ≡ told line (read_form request_form (drop at line))
+unfolding reading
+begun line at e = ap (λ l. told line (read_form request_form l)) (sym e)
+
+pub answers_ok : (f : Form) (line : List ℕ) (at : ℕ) (r : Result Request ReadError) → reading line ≡ told line (read_form f (drop at line)) → Answers f line at r → IfOk r (λ q. reading line ≡ reads q)
+answers_ok f line at (Ok q) h a = h ∙ ap (told line) a
+answers_ok f line at (Err e) h a = tt
+
+pub answers_err : (f : Form) (line : List ℕ) (at : ℕ) (r : Result Request ReadError) → reading line ≡ told line (read_form f (drop at line)) → Answers f line at r → IfErr r (λ e. (e ≡ Memory) ⊎ ((o : ℕ) × (e ≡ Syntax o) × (reading line ≡ fault o)))
+answers_err f line at (Ok q) h a = tt
+answers_err f line at (Err Memory) h a = inl refl
+answers_err f line at (Err (Syntax o)) h a =
+    let there : length line - length (drop o line) ≡ o = (let l = length-drop o line in let w = a.0 in omega (arith, l, w)) in
+    inr (o, refl, h ∙ ap (told line) a.1 ∙ ap fault there)

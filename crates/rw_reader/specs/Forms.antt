@@ -61,7 +61,7 @@ number_within most (binder n) = None
 
 abbrev pub operand_of : Token → Option Term
 operand_of (text w) = option_map terms.Var (variable_of (text w))
-operand_of (number n) = Some (terms.Lit (pos n))
+operand_of (number n) = cond (leb n 170141183460469231731687303715884105727) (Some (terms.Lit (pos n))) None
 operand_of (binder n) = None
 
 -- what a token in a slot says, where it may stand there
@@ -99,9 +99,13 @@ IsOf (either w f g) ts q = ((rest : List Token) × (ts ≡ text w ∷ rest) × I
 abbrev pub mark : List ℕ → Form → Form
 mark w f = takes (exactly w) (λ _. f)
 
--- an atom: `true`, `false`, or two operands with `=` between them
+-- two operands with `=` between them
+abbrev pub equation : (Formula → Form) → Form
+equation k = takes an_operand (λ t. mark (codes "=") (takes an_operand (λ u. k (formulas.Eq t u))))
+
+-- an atom: `true`, `false` or an equation
 unfoldable pub atom : (Formula → Form) → Form
-atom k = either (codes "true") (k formulas.True) (either (codes "false") (k formulas.False) (takes an_operand (λ t. mark (codes "=") (takes an_operand (λ u. k (formulas.Eq t u))))))
+atom k = either (codes "true") (k formulas.True) (either (codes "false") (k formulas.False) (equation k))
 
 abbrev pub main_tree : Place
 main_tree = record { tree = trees.Main; path = record { kids = [] } }

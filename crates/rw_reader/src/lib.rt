@@ -2,5 +2,9 @@
 #![tactic(auto)]
 
 pub mod laws;
+mod reading;
 pub mod request;
+mod taking;
 pub mod token;
+
+pub use reading::read_request;
