@@ -73,10 +73,10 @@ starts_first here more t rest s e = first_at here here [] more t rest refl s e
 
 fit_stops : (s : Slot) (k : Filled s → Form) (here there : List ℕ) (p : Token × List ℕ) → Keeps (takes s k) → ((v : Filled s) (l : List ℕ) → read_form (k v) l ≡ stops there → Stopped (k v) l there) → token_at here ≡ Some p → (o : Option (Filled s)) → filled s p.0 ≡ o → fitted here (λ v. read_form (k v) p.1) o ≡ stops there → Stopped (takes s k) here there
 fit_stops s k here there p keep h z None y e = at_once (takes s k) here there keep e (λ more q st i.
-  let x = starts_first here more i.first i.rest st i.tokens_are in
-  let same : p.0 ≡ i.first = ap (λ a. a.0) (some_is (sym z ∙ x.1)) in
-  let both : None ≡ Some i.filling = sym y ∙ ap (filled s) same ∙ i.fills in
-  absurd (cc))
+    let x = starts_first here more i.first i.rest st i.tokens_are in
+    let same : p.0 ≡ i.first = ap (λ a. a.0) (some_is (sym z ∙ x.1)) in
+    let both : None ≡ Some i.filling = sym y ∙ ap (filled s) same ∙ i.fills in
+    absurd (cc))
 fit_stops s k here there p keep h z (Some v) y e =
     let x = h v p.1 e in
     record {
@@ -84,10 +84,10 @@ fit_stops s k here there p keep h z (Some v) y e =
       leads = (p.1, z, x.leads);
       goes = record { rest = x.goes.rest; request = x.goes.request; is = record { first = p.0; rest = x.before ++ x.goes.rest; filling = v; tokens_are = refl; fills = y; more = x.goes.is } };
       stuck = λ more q st i.
-      let first : p.0 ≡ i.first = cc (i.tokens_are) in
-      let rest : x.before ++ more ≡ i.rest = cc (i.tokens_are) in
-      let same : v ≡ i.filling = some_is (sym y ∙ ap (filled s) first ∙ i.fills) in
-      x.stuck more q st (subst (λ a. IsOf (k v) a q) (sym rest) (subst (λ a. IsOf (k a) i.rest q) (sym same) i.more));
+          let first : p.0 ≡ i.first = cc (i.tokens_are) in
+          let rest : x.before ++ more ≡ i.rest = cc (i.tokens_are) in
+          let same : v ≡ i.filling = some_is (sym y ∙ ap (filled s) first ∙ i.fills) in
+          x.stuck more q st (subst (λ a. IsOf (k v) a q) (sym rest) (subst (λ a. IsOf (k a) i.rest q) (sym same) i.more));
     }
 
 slot_stops : (s : Slot) (k : Filled s → Form) (here there : List ℕ) → Keeps (takes s k) → ((v : Filled s) (l : List ℕ) → read_form (k v) l ≡ stops there → Stopped (k v) l there) → (o : Option (Token × List ℕ)) → token_at here ≡ o → slot_read s here (λ v. read_form (k v)) o ≡ stops there → Stopped (takes s k) here there
@@ -118,8 +118,8 @@ pick_stops w f g here there p not_so hf hg z true y e =
       stuck = then_stuck w f g p.1 there p.0 x not_so t;
     }
 pick_stops w f g here there p not_so hf hg z false y e = else_stops w f g here there (λ behind u.
-  let same : p.0 ≡ text w = ap (λ a. a.0) (some_is (sym z ∙ u)) in
-  true≢false (sym (is_text_own w) ∙ ap (is_text w) (sym same) ∙ y)) (hg e)
+    let same : p.0 ≡ text w = ap (λ a. a.0) (some_is (sym z ∙ u)) in
+    true≢false (sym (is_text_own w) ∙ ap (is_text w) (sym same) ∙ y)) (hg e)
 
 choice_stops : (w : List ℕ) (f g : Form) (here there : List ℕ) → begins g (text w) ≡ false → ((l : List ℕ) → read_form f l ≡ stops there → Stopped f l there) → (read_form g here ≡ stops there → Stopped g here there) → (o : Option (Token × List ℕ)) → token_at here ≡ o → choice_read w (read_form f) (read_form g here) o ≡ stops there → Stopped (either w f g) here there
 choice_stops w f g here there not_so hf hg None z e = else_stops w f g here there (λ behind y. absurd (cc (z, y))) (hg e)

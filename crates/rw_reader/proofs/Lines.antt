@@ -55,9 +55,11 @@ exclusive line r o s f = by_sides (aligned (skip line) f.before s.0 f.left [] f.
     longer_side : (more : List Token) → s.0 ≡ f.before ++ more → LeadsTo f.left more [] → ⊥
     longer_side [] i l = f.early l r (subst (λ x. Spells x r) (i ∙ append-nil f.before) s.2)
     longer_side (k ∷ more) i l = past line o f k more [] l (subst CanGoOn i (spells_goes s.0 r s.2))
+
     shorter_side : (more : List Token) → f.before ≡ s.0 ++ more → LeadsTo [] more f.left → ⊥
     shorter_side [] i l = f.early (sym l) r (subst (λ x. Spells x r) (sym (i ∙ append-nil s.0)) s.2)
     shorter_side (k ∷ more) i l = no_token_at_end [] k l.0 refl l.1
+
     by_sides : Either f.before s.0 f.left [] → ⊥
     by_sides (longer a) = longer_side a.more a.is a.leads
     by_sides (shorter a) = shorter_side a.more a.is a.leads
@@ -68,9 +70,11 @@ one_line line r q a b = by_sides (aligned (skip line) a.0 b.0 [] [] a.1 b.1)
     same : (ts us more : List Token) → us ≡ ts ++ more → LeadsTo [] more [] → Spells ts r → Spells us q → r ≡ q
     same ts us [] i l x y = one request_form ts r q requests_keep x (subst (λ z. Spells z q) (i ∙ append-nil ts) y)
     same ts us (k ∷ more) i l x y = absurd (no_token_at_end [] k l.0 refl l.1)
+
     other : (ts us more : List Token) → us ≡ ts ++ more → LeadsTo [] more [] → Spells ts q → Spells us r → r ≡ q
     other ts us [] i l x y = one request_form ts r q requests_keep (subst (λ z. Spells z r) (i ∙ append-nil ts) y) x
     other ts us (k ∷ more) i l x y = absurd (no_token_at_end [] k l.0 refl l.1)
+
     by_sides : Either a.0 b.0 [] [] → r ≡ q
     by_sides (longer e) = same a.0 b.0 e.more e.is e.leads a.2 b.2
     by_sides (shorter e) = other b.0 a.0 e.more e.is e.leads b.2 a.2
@@ -80,12 +84,15 @@ one_fault line o p f g = by_sides (aligned (skip line) f.before g.before f.left 
   where
     places : f.left ≡ g.left → o ≡ p
     places e = let l : length f.left ≡ length g.left = ap length e in omega (arith, f.place, g.place)
+
     longer_side : (more : List Token) → g.before ≡ f.before ++ more → LeadsTo f.left more g.left → o ≡ p
     longer_side [] i l = places l
     longer_side (k ∷ more) i l = absurd (past line o f k more g.left l (subst CanGoOn i g.goes))
+
     shorter_side : (more : List Token) → f.before ≡ g.before ++ more → LeadsTo g.left more f.left → o ≡ p
     shorter_side [] i l = places (sym l)
     shorter_side (k ∷ more) i l = absurd (past line p g k more f.left l (subst CanGoOn i f.goes))
+
     by_sides : Either f.before g.before f.left g.left → o ≡ p
     by_sides (longer e) = longer_side e.more e.is e.leads
     by_sides (shorter e) = shorter_side e.more e.is e.leads
@@ -152,6 +159,7 @@ reads_exactly line r = (there (answer line), back (answer line))
     there : Answer line (reading line) → reading line ≡ reads r → LineSpells line r
     there (good q e s) h = subst (LineSpells line) (reads_is (sym e ∙ h)) s
     there (bad o e f) h = let z : fault o ≡ reads r = sym e ∙ h in absurd (cc)
+
     back : Answer line (reading line) → LineSpells line r → reading line ≡ reads r
     back (good q e s) h = e ∙ ap reads (one_line line q r s h)
     back (bad o e f) h = absurd (exclusive line r o h f)
@@ -162,6 +170,7 @@ faults_exactly line o = (there (answer line), back (answer line))
     there : Answer line (reading line) → reading line ≡ fault o → IsFault line o
     there (good q e s) h = let z : reads q ≡ fault o = sym e ∙ h in absurd (cc)
     there (bad p e f) h = subst (IsFault line) (fault_is (sym e ∙ h)) f
+
     back : Answer line (reading line) → IsFault line o → reading line ≡ fault o
     back (good q e s) h = absurd (exclusive line q o s h)
     back (bad p e f) h = e ∙ ap fault (one_fault line p o f h)

@@ -116,7 +116,7 @@ var_form = takes a_variable (λ x. mark (codes ":") (mark (codes "int") (gives (
 
 -- root NAME : [ATOM, ATOM]
 unfoldable pub root_form : Form
-root_form = takes a_variable (λ x. mark (codes ":") (mark (codes "[") (atom (λ f. mark (codes ",") (atom (λ g. mark (codes "]") (gives (requests.Edit (edits.Root (record { frame = x ∷ []; pre = f; post = g })))))))))) 
+root_form = takes a_variable (λ x. mark (codes ":") (mark (codes "[") (atom (λ f. mark (codes ",") (atom (λ g. mark (codes "]") (gives (requests.Edit (edits.Root (record { frame = x ∷ []; pre = f; post = g }))))))))))
 
 -- step main skip
 unfoldable pub step_form : Form

@@ -111,3 +111,98 @@ fn main_tree(alloc: Global) -> Place
         },
     }
 }
+
+#[cfg(test)]
+mod tests {
+    use super::*;
+    use rw_items::Boxed;
+    use std::process::Abort;
+    use std::test::Fail;
+
+    fn fault_of(rt: &impl Abort, alloc: Global, line: &[u8]) -> Result<Option<u32>, Fail> {
+        assert!(rt; line.len() <= 65536);
+        match read_request(alloc, line) {
+            Ok(request) => {
+                let _request = Boxed::new(alloc, request)?;
+                Ok(None)
+            }
+            Err(ReadError::Syntax(offset)) => Ok(Some(offset)),
+            Err(ReadError::Memory) => Err(Fail::from("out of memory")),
+        }
+    }
+
+    fn agree(rt: &impl Abort, alloc: Global, cases: &[(&[u8], Option<u32>)]) -> Result<(), Fail> {
+        for (line, offset) in cases {
+            assert_eq!(rt; fault_of(rt, alloc, line)?, *offset);
+        }
+        Ok(())
+    }
+
+    #[test]
+    fn lines_are_requests_or_have_their_fault(rt: HostRuntime) -> Result<(), Fail> {
+        agree(
+            &rt,
+            rt.alloc(),
+            &[
+                (b"var x : int", None),
+                (b"root x:[x = 1, 2 = x]", None),
+                (b"root x:[true, false]", None),
+                (b"step main skip", None),
+                (b"prove main 4294967295 ax", None),
+                (b"\tstatus\r", None),
+                (b"frob", Some(0)),
+                (b"  frob", Some(2)),
+                (b"var x : array 4", Some(8)),
+                (b"root x:[true]", Some(12)),
+                (b"prove main 4294967296 ax", Some(11)),
+                (b"prove main 1", Some(12)),
+                (b"step main", Some(9)),
+                (b"status x", Some(7)),
+            ],
+        )
+    }
+
+    #[test]
+    fn tokens_are_the_longest(rt: HostRuntime) -> Result<(), Fail> {
+        agree(
+            &rt,
+            rt.alloc(),
+            &[
+                (b"var x := int", Some(6)),
+                (b"root x:[] true, true]", Some(7)),
+                (b"root x:[x == 1, true]", Some(11)),
+                (b"root x:[007 = 7, true]", Some(8)),
+                (b"root x:[0 = 00, true]", Some(12)),
+                (
+                    b"root x:[170141183460469231731687303715884105727 = 0, true]",
+                    None,
+                ),
+                (
+                    b"root x:[170141183460469231731687303715884105728 = 0, true]",
+                    Some(8),
+                ),
+                (b"root x:[_1 = 1, true]", Some(8)),
+                (b"root x:[_0 = 1, true]", Some(8)),
+                (b"var x\x00: int", Some(5)),
+                (b"var \xc8 : int", Some(4)),
+            ],
+        )
+    }
+
+    #[test]
+    fn names_are_lower_case_short_and_not_reserved(rt: HostRuntime) -> Result<(), Fail> {
+        agree(
+            &rt,
+            rt.alloc(),
+            &[
+                (b"var X : int", Some(4)),
+                (b"var int : int", Some(4)),
+                (b"var ax : int", None),
+                (b"var x0 : int", Some(4)),
+                (b"var x01 : int", None),
+                (b"var abcdefghijklmnopqrstuvwxyzabcdef : int", None),
+                (b"var abcdefghijklmnopqrstuvwxyzabcdefg : int", Some(4)),
+            ],
+        )
+    }
+}

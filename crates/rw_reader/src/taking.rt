@@ -169,7 +169,13 @@ fn number_within(token: Token) -> Option<u32>
     ensures { result ≡ number_within 4294967295 (seen token.entry) }
 {
     match token {
-        Token::Number(n) => { if n <= 4294967295 { Some(n as u32) } else { None } }
+        Token::Number(n) => {
+            if n <= 4294967295 {
+                Some(n as u32)
+            } else {
+                None
+            }
+        }
         Token::Text(_) | Token::Binder(_) => None,
     }
 }

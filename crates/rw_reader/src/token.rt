@@ -131,7 +131,13 @@ fn binder(text: &[u8]) -> Option<(Token, usize)>
 {
     let len = digits_len(text);
     match number(&text[..len]) {
-        Some(n) => { if n >= 1 { Some((Token::Binder(n), len + 1)) } else { None } }
+        Some(n) => {
+            if n >= 1 {
+                Some((Token::Binder(n), len + 1))
+            } else {
+                None
+            }
+        }
         None => None,
     }
 }

@@ -10,7 +10,7 @@ unfolding token_at
 returns-in-Some c = (
   c.skip.ensures.within,
   ap (option_map (with_next (drop c.args.at c.args.line.now))) (ap front_token (sym (behind_is c.args.line.now c.args.at)) ∙ sym c.in-Some.ensures.token) ∙
-  ap (λ x. Some (seen c.in-Some.token, x)) (ap skip (drop-drop c.in-Some.len c.args.at c.args.line.now) ∙ sym c.skip.ensures.place),
+      ap (λ x. Some (seen c.in-Some.token, x)) (ap skip (drop-drop c.in-Some.len c.args.at c.args.line.now) ∙ sym c.skip.ensures.place),
 )
 
 pub returns-in-None : goal.returns-in-None
