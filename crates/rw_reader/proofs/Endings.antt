@@ -3,7 +3,7 @@ use Rattle.std.proofs.Common.{◌≡◌, ℕ, Bool, true, false, cond, List, [],
 use Rattle.rw_reader.specs.declared.request.Request.{Request}
 use Rattle.rw_reader.specs.Tokens.{Token, text, token_at, LeadsTo}
 use Rattle.rw_reader.specs.Forms.{Slot, Filled, filled, is_text, Form, gives, takes, either, IsOf}
-use Rattle.rw_reader.specs.Reading.{Ending, whole, stops, at_end, fitted, slot_read, choice_read, read_form}
+use Rattle.rw_reader.specs.Reading.{whole, stops, fitted, slot_read, choice_read, read_form}
 use Rattle.rw_reader.proofs.Grammar.{some_is, text_is, is_text_own, begins, Keeps, apart, Goes, met}
 
 -- a whole form

@@ -1,15 +1,15 @@
 -- A line is read as a request exactly where its tokens spell it, and has the fault that is told exactly where it has it.
-use Rattle.std.proofs.Common.{◌≡◌, ℕ, ◌+◌, ◌-◌, ◌≤◌, List, [], ◌∷◌, ◌++◌, length, Option, Some, None, refl, sym, ap, ◌∙◌, subst, arith, append-nil, append_assoc, length-drop, drop, ◌⊎◌, inl, inr}
+use Rattle.std.proofs.Common.{◌≡◌, ℕ, ◌-◌, ◌≤◌, List, [], ◌∷◌, ◌++◌, length, Option, Some, None, refl, sym, ap, ◌∙◌, subst, arith, append-nil, append_assoc, length-drop, drop, ◌⊎◌, inl, inr}
 use Rattle.std.specs.Prelude.{option_map, ◌↔◌, Result, Ok, Err, IfOk, IfErr}
 use Rattle.rw_reader.specs.declared.request.Request.{Request}
 use Rattle.rw_reader.specs.Tokens.{Token, skip, token_at, front_token, with_next, LeadsTo}
 use Rattle.rw_reader.specs.declared.request.ReadError.{ReadError}
 use Rattle.rw_reader.specs.declared.request.ReadError.TheVariants.{Syntax, Memory}
-use Rattle.rw_reader.specs.Forms.{Form, IsOf, request_form}
+use Rattle.rw_reader.specs.Forms.{Form, request_form}
 use Rattle.rw_reader.specs.Progress.{Answers}
 use Rattle.rw_reader.specs.Reading.{Spells, CanGoOn, LineSpells, IsFault, Ending, whole, stops, read_form, Reading, reads, fault, told, reading}
 use Rattle.rw_reader.proofs.Grammar.{some_is, one, requests_keep}
-use Rattle.rw_reader.proofs.Endings.{whole_as, stops_as, Starts}
+use Rattle.rw_reader.proofs.Endings.{whole_as, stops_as}
 
 no_token_at_end : (bytes : List ℕ) (t : Token) (behind : List ℕ) → bytes ≡ [] → token_at bytes ≡ Some (t, behind) → ⊥
 unfolding token_at front_token

@@ -1,5 +1,5 @@
 -- One token of a form, read from a place on.
-use Rattle.std.proofs.Common.{◌≡◌, ℕ, ◌<◌, ◌≤◌, arith, length-drop, Bool, true, false, cond, List, [], ◌∷◌, length, drop, Option, Some, None, IsTrue, refl, sym, ap, ◌∙◌, subst}
+use Rattle.std.proofs.Common.{◌≡◌, ℕ, ◌<◌, ◌≤◌, arith, length-drop, Bool, true, false, cond, List, [], ◌∷◌, length, drop, Some, None, IsTrue, refl, sym, ap, ◌∙◌, subst}
 use Rattle.std.specs.Prelude.{◌&&◌}
 use Rattle.rw_terms.specs.Names.{is_name}
 use Rattle.std.proofs.lemmas.List.{drop_all}
@@ -7,7 +7,7 @@ use Rattle.rw_reader.specs.declared.request.Request.{Request}
 use Rattle.rw_reader.specs.declared.request.ReadError.{ReadError}
 use Rattle.rw_reader.specs.declared.request.ReadError.TheVariants.{Syntax}
 use Rattle.rw_reader.specs.Tokens.{Token, token_at}
-use Rattle.rw_reader.specs.Forms.{Slot, exactly, Filled, filled, is_text, is_lower, is_variable, Form, gives, takes, either}
+use Rattle.rw_reader.specs.Forms.{Slot, Filled, filled, is_text, is_lower, is_variable, Form, gives, takes, either}
 use Rattle.rw_reader.specs.Reading.{Ending, whole, stops, at_end, fitted, slot_read, choice_read, read_form}
 use Rattle.rw_reader.specs.Progress.{IsPlace, StopsAt}
 

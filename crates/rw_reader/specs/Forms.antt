@@ -1,5 +1,5 @@
 -- The grammar of requests: a request is of a form, which says what stands where. A new request is a new form.
-use Rattle.std.specs.Prelude.{◌≡◌, ℕ, Bool, true, false, ◌&&◌, ◌||◌, cond, leb, List, [], ◌∷◌, Option, Some, None, option_map, IsTrue, is_some, codes, bytes_eq, ◌⊎◌, pos}
+use Rattle.std.specs.Prelude.{◌≡◌, ℕ, Bool, false, ◌&&◌, cond, leb, List, [], ◌∷◌, Option, Some, None, option_map, codes, bytes_eq, ◌⊎◌, pos}
 use Rattle.rw_terms.specs.Names.{is_name}
 use Rattle.rw_terms.specs.declared.term.Sort.TheVariants as sorts
 use Rattle.rw_terms.specs.declared.term.Term.{Term}
@@ -11,7 +11,6 @@ use Rattle.rw_laws.specs.declared.step.BasicStep.TheVariants as laws
 use Rattle.rw_tree.specs.declared.edit.TreeName.TheVariants as trees
 use Rattle.rw_tree.specs.declared.edit.Place.{Place}
 use Rattle.rw_tree.specs.declared.edit.Step.TheVariants as steps
-use Rattle.rw_tree.specs.declared.edit.Edit.{Edit}
 use Rattle.rw_tree.specs.declared.edit.Edit.TheVariants as edits
 use Rattle.rw_reader.specs.declared.request.Request.{Request}
 use Rattle.rw_reader.specs.declared.request.Request.TheVariants as requests

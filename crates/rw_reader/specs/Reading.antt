@@ -1,5 +1,5 @@
 -- What a line's tokens spell, where its fault is, and what is read.
-use Rattle.std.specs.Prelude.{◌≡◌, ℕ, ◌+◌, ◌-◌, Bool, true, false, cond, List, [], ◌∷◌, ◌++◌, length, Option, Some, None}
+use Rattle.std.specs.Prelude.{◌≡◌, ℕ, ◌+◌, ◌-◌, cond, List, [], ◌∷◌, ◌++◌, length, Option, Some, None}
 use Rattle.rw_reader.specs.declared.request.Request.{Request}
 use Rattle.rw_reader.specs.Tokens.{Token, skip, token_at, LeadsTo}
 use Rattle.rw_reader.specs.Forms.{Slot, Filled, filled, is_text, Form, gives, takes, either, IsOf, request_form}

@@ -1,5 +1,5 @@
 -- The tokens of a line.
-use Rattle.std.specs.Prelude.{◌≡◌, ℕ, ◌+◌, ◌-◌, ◌*◌, Bool, true, false, ◌||◌, cond, leb, eqb, List, [], ◌∷◌, take, drop, Option, Some, None, option_map, codes, bytes_eq}
+use Rattle.std.specs.Prelude.{◌≡◌, ℕ, ◌+◌, ◌-◌, ◌*◌, Bool, false, ◌||◌, cond, leb, eqb, List, [], ◌∷◌, take, drop, Option, Some, None, option_map, codes, bytes_eq}
 use Rattle.std.specs.List.{prefix_len, list_any}
 use Rattle.rw_terms.specs.Names.{is_letter, is_digit, goes_on}
 

@@ -1,9 +1,9 @@
-use Rattle.std.proofs.Common.{◌∙◌, sym, ap, drop, true, false, refl}
+use Rattle.std.proofs.Common.{◌∙◌, ap}
 use Rattle.std.specs.Prelude.{Ok, Err}
 use Rattle.std.proofs.lemmas.Result.{err_from_is_err_and}
 use Rattle.rw_reader.specs.declared.request.Request.TheVariants as requests
-use Rattle.rw_reader.specs.Forms.{Form, request_form, var_form, root_form, step_form, prove_form}
-use Rattle.rw_reader.specs.Reading.{read_form, whole, told}
+use Rattle.rw_reader.specs.Forms.{request_form, var_form, root_form, step_form, prove_form}
+use Rattle.rw_reader.specs.Reading.{told}
 use Rattle.rw_reader.proofs.Parts.{carried}
 use Rattle.rw_reader.proofs.Lines.{begun, answers_ok, answers_err}
 use Rattle.rw_reader.proofs.reading.read_request.Goals as goal

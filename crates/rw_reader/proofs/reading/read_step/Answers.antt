@@ -1,10 +1,8 @@
-use Rattle.std.proofs.Common.{◌∙◌, sym, ap, drop, true, false, refl, [], ◌∷◌, ◌++◌}
+use Rattle.std.proofs.Common.{◌∙◌}
 use Rattle.std.proofs.lemmas.Result.{err_from_is_err_and}
-use Rattle.rw_reader.specs.Forms.{Form, step_form}
-use Rattle.rw_reader.specs.Reading.{read_form, whole}
-use Rattle.rw_sequents.specs.declared.line.CertLine.TheVariants as lines
+use Rattle.rw_reader.specs.Forms.{step_form}
 use Rattle.rw_reader.proofs.Parts.{carried}
-use Rattle.rw_reader.proofs.Made.{made_root, made_step, made_prove}
+use Rattle.rw_reader.proofs.Made.{made_step}
 use Rattle.rw_reader.proofs.reading.read_step.Goals as goal
 
 pub returns-in_err-expect : goal.returns-in_err-expect

@@ -1,10 +1,7 @@
-use Rattle.std.proofs.Common.{◌∙◌, sym, ap, drop, true, false, refl, [], ◌∷◌, ◌++◌}
+use Rattle.std.proofs.Common.{◌∙◌}
 use Rattle.std.proofs.lemmas.Result.{err_from_is_err_and}
-use Rattle.rw_reader.specs.Forms.{Form, var_form}
-use Rattle.rw_reader.specs.Reading.{read_form, whole}
-use Rattle.rw_sequents.specs.declared.line.CertLine.TheVariants as lines
+use Rattle.rw_reader.specs.Forms.{var_form}
 use Rattle.rw_reader.proofs.Parts.{carried}
-use Rattle.rw_reader.proofs.Made.{made_root, made_step, made_prove}
 use Rattle.rw_reader.proofs.reading.read_var.Goals as goal
 
 pub returns-in_err-name : goal.returns-in_err-name

@@ -1,7 +1,7 @@
-use Rattle.std.proofs.Common.{◌≡◌, ◌∙◌, sym, ap, drop, true, false, refl}
+use Rattle.std.proofs.Common.{◌≡◌, ◌∙◌, sym, ap, drop}
 use Rattle.std.proofs.lemmas.Result.{err_from_is_err_and}
 use Rattle.rw_terms.specs.declared.term.Formula.TheVariants as formulas
-use Rattle.rw_reader.specs.Forms.{Form, atom, equation}
+use Rattle.rw_reader.specs.Forms.{atom}
 use Rattle.rw_reader.specs.Reading.{read_form}
 use Rattle.rw_reader.proofs.Parts.{carried}
 use Rattle.rw_reader.proofs.taking.atom.Goals as goal

@@ -1,7 +1,4 @@
-use Rattle.std.proofs.Common.{sym, subst}
-use Rattle.rw_reader.specs.Forms.{gives}
-use Rattle.rw_reader.specs.Reading.{read_form}
-use Rattle.rw_reader.proofs.Parts.{end_stops, end_is, stops_end}
+use Rattle.rw_reader.proofs.Parts.{end_is, stops_end}
 use Rattle.rw_reader.proofs.taking.end.Goals as goal
 
 pub returns-then-at-line : goal.returns-then-at-line

@@ -1,7 +1,7 @@
-use Rattle.std.proofs.Common.{cond, ◌∙◌, sym, ap, drop, true, false, refl, Some, None, length, ◌<◌, ◌≤◌, arith}
-use Rattle.rw_reader.specs.Forms.{exactly, a_variable, a_number, an_operand, takes}
+use Rattle.std.proofs.Common.{◌∙◌, sym, ap, drop, Some}
+use Rattle.rw_reader.specs.Forms.{an_operand, takes}
 use Rattle.rw_reader.specs.Seen.{seen}
-use Rattle.rw_reader.proofs.Parts.{none_stops, misfit_stops, fits_goes, none_other, other_goes, word_goes, stops_here, moved}
+use Rattle.rw_reader.proofs.Parts.{none_stops, misfit_stops, fits_goes, stops_here, moved}
 use Rattle.rw_reader.proofs.taking.operand.Goals as goal
 
 pub returns-in-None : goal.returns-in-None

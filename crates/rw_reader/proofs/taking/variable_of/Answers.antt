@@ -1,4 +1,4 @@
-use Rattle.std.proofs.Common.{◌∙◌, sym, ap, true, false, Some, None}
+use Rattle.std.proofs.Common.{◌∙◌, sym, ap, true, false, Some}
 use Rattle.rw_reader.specs.Forms.{variable_of}
 use Rattle.rw_reader.specs.Seen.{seen}
 use Rattle.rw_reader.proofs.Parts.{variable_is, no_variable}

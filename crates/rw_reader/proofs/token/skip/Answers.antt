@@ -1,4 +1,4 @@
-use Rattle.std.proofs.Common.{◌≡◌, ◌≤◌, ◌+◌, ◌∙◌, sym, ap, drop, length, arith, length-drop, drop-drop, ℕ}
+use Rattle.std.proofs.Common.{◌∙◌, sym, ap, drop, arith, length-drop, drop-drop}
 use Rattle.std.specs.List.{prefix_len}
 use Rattle.rw_reader.specs.Tokens.{is_blank, skip}
 use Rattle.rw_reader.proofs.Bytes.{front_within, behind_is}

@@ -1,4 +1,4 @@
-use Rattle.std.proofs.Common.{sym, ap, ◌∙◌, Some, None, drop, drop-drop}
+use Rattle.std.proofs.Common.{sym, ap, ◌∙◌, Some, drop, drop-drop}
 use Rattle.std.specs.Prelude.{option_map}
 use Rattle.rw_reader.specs.Tokens.{skip, with_next, front_token, token_at}
 use Rattle.rw_reader.specs.Seen.{seen}

@@ -1,4 +1,4 @@
-use Rattle.std.proofs.Common.{◌≡◌, ◌+◌, ◌*◌, ◌<◌, ◌≤◌, ℕ, Some, None, cond, length, drop, arith, sym, ap, ◌∙◌}
+use Rattle.std.proofs.Common.{Some, None, cond, arith, sym, ap, ◌∙◌}
 use Rattle.rw_reader.specs.Tokens.{value}
 use Rattle.rw_reader.proofs.Digits.{too_large, value_step, value_end, fits}
 use Rattle.rw_reader.proofs.token.value.Goals as goal
