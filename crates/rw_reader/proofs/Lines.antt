@@ -1,0 +1,196 @@
+-- A line is read as a request exactly where its tokens spell it, and has the fault that is told exactly where it has it.
+use Rattle.std.proofs.Common.{◌≡◌, ℕ, ◌-◌, ◌≤◌, List, [], ◌∷◌, ◌++◌, length, Option, Some, None, refl, sym, ap, ◌∙◌, subst, arith, append-nil, append_assoc, length-drop, drop, ◌⊎◌, inl, inr}
+use Rattle.std.specs.Prelude.{option_map, ◌↔◌, Result, Ok, Err, IfOk, IfErr}
+use Rattle.rw_reader.specs.declared.request.Request.{Request}
+use Rattle.rw_reader.specs.Tokens.{Token, skip, token_at, front_token, with_next, LeadsTo}
+use Rattle.rw_reader.specs.declared.request.ReadError.{ReadError}
+use Rattle.rw_reader.specs.declared.request.ReadError.TheVariants.{Syntax, Memory}
+use Rattle.rw_reader.specs.Forms.{Form, request_form}
+use Rattle.rw_reader.specs.Progress.{Answers}
+use Rattle.rw_reader.specs.Reading.{Spells, CanGoOn, LineSpells, IsFault, Ending, whole, stops, read_form, Reading, reads, fault, told, reading}
+use Rattle.rw_reader.proofs.Grammar.{some_is, one, requests_keep}
+use Rattle.rw_reader.proofs.Endings.{whole_as, stops_as}
+
+no_token_at_end : (bytes : List ℕ) (t : Token) (behind : List ℕ) → bytes ≡ [] → token_at bytes ≡ Some (t, behind) → ⊥
+unfolding token_at front_token
+no_token_at_end [] t behind e h = absurd (cc)
+no_token_at_end (b ∷ bs) t behind e h = absurd (cc)
+
+-- one list of tokens begins the other
+record Aligned (before ts : List Token) (left end : List ℕ) : Type 0 where
+  more : List Token
+  is : ts ≡ before ++ more
+  leads : LeadsTo left more end
+
+-- two readings of one text: one list begins the other
+data Either (before ts : List Token) (left end : List ℕ) : Type 0 where
+  longer : Aligned before ts left end → Either before ts left end
+  shorter : Aligned ts before end left → Either before ts left end
+
+grown : (t k : Token) (before ts : List Token) (left end : List ℕ) → t ≡ k → Either before ts left end → Either (t ∷ before) (k ∷ ts) left end
+grown t k before ts left end e (longer r) = longer (record { more = r.more; is = ap (λ x. k ∷ x) r.is ∙ ap (λ x. x ∷ (before ++ r.more)) (sym e); leads = r.leads })
+grown t k before ts left end e (shorter r) = shorter (record { more = r.more; is = ap (λ x. t ∷ x) r.is ∙ ap (λ x. x ∷ (ts ++ r.more)) e; leads = r.leads })
+
+aligned : (bytes : List ℕ) (before ts : List Token) (left end : List ℕ) → LeadsTo bytes before left → LeadsTo bytes ts end → Either before ts left end
+aligned bytes [] ts left end a b = longer (record { more = ts; is = refl; leads = subst (λ x. LeadsTo x ts end) a b })
+aligned bytes (t ∷ before) [] left end a b = shorter (record { more = t ∷ before; is = refl; leads = subst (λ x. LeadsTo x (t ∷ before) left) b a })
+aligned bytes (t ∷ before) (k ∷ ts) left end a b =
+    let same = some_is (sym a.1 ∙ b.1) in
+    grown t k before ts left end (ap (λ p. p.0) same) (aligned a.0 before ts left end a.2 (subst (λ x. LeadsTo x ts end) (sym (ap (λ p. p.1) same)) b.2))
+
+-- what goes on from a fault's place
+goes_one_more : (before : List Token) (k : Token) (ks : List Token) → CanGoOn (before ++ k ∷ ks) → CanGoOn (before ++ k ∷ [])
+goes_one_more before k ks c = (ks ++ c.0, c.1, subst (λ x. Spells x c.1) (append_assoc before (k ∷ ks) c.0 ∙ sym (append_assoc before (k ∷ []) (ks ++ c.0))) c.2)
+
+-- a list of tokens that goes on past a fault
+past : (line : List ℕ) (o : ℕ) (f : IsFault line o) (k : Token) (more : List Token) (end : List ℕ) → LeadsTo f.left (k ∷ more) end → ¬ (CanGoOn (f.before ++ k ∷ more))
+past line o f k more end l c = f.stuck k l.0 l.1 (goes_one_more f.before k more c)
+
+spells_goes : (ts : List Token) (r : Request) → Spells ts r → CanGoOn ts
+spells_goes ts r s = ([], r, subst (λ x. Spells x r) (sym (append-nil ts)) s)
+
+exclusive : (line : List ℕ) (r : Request) (o : ℕ) → LineSpells line r → IsFault line o → ⊥
+exclusive line r o s f = by_sides (aligned (skip line) f.before s.0 f.left [] f.leads s.1)
+  where
+    longer_side : (more : List Token) → s.0 ≡ f.before ++ more → LeadsTo f.left more [] → ⊥
+    longer_side [] i l = f.early l r (subst (λ x. Spells x r) (i ∙ append-nil f.before) s.2)
+    longer_side (k ∷ more) i l = past line o f k more [] l (subst CanGoOn i (spells_goes s.0 r s.2))
+
+    shorter_side : (more : List Token) → f.before ≡ s.0 ++ more → LeadsTo [] more f.left → ⊥
+    shorter_side [] i l = f.early (sym l) r (subst (λ x. Spells x r) (sym (i ∙ append-nil s.0)) s.2)
+    shorter_side (k ∷ more) i l = no_token_at_end [] k l.0 refl l.1
+
+    by_sides : Either f.before s.0 f.left [] → ⊥
+    by_sides (longer a) = longer_side a.more a.is a.leads
+    by_sides (shorter a) = shorter_side a.more a.is a.leads
+
+one_line : (line : List ℕ) (r q : Request) → LineSpells line r → LineSpells line q → r ≡ q
+one_line line r q a b = by_sides (aligned (skip line) a.0 b.0 [] [] a.1 b.1)
+  where
+    same : (ts us more : List Token) → us ≡ ts ++ more → LeadsTo [] more [] → Spells ts r → Spells us q → r ≡ q
+    same ts us [] i l x y = one request_form ts r q requests_keep x (subst (λ z. Spells z q) (i ∙ append-nil ts) y)
+    same ts us (k ∷ more) i l x y = absurd (no_token_at_end [] k l.0 refl l.1)
+
+    other : (ts us more : List Token) → us ≡ ts ++ more → LeadsTo [] more [] → Spells ts q → Spells us r → r ≡ q
+    other ts us [] i l x y = one request_form ts r q requests_keep (subst (λ z. Spells z r) (i ∙ append-nil ts) y) x
+    other ts us (k ∷ more) i l x y = absurd (no_token_at_end [] k l.0 refl l.1)
+
+    by_sides : Either a.0 b.0 [] [] → r ≡ q
+    by_sides (longer e) = same a.0 b.0 e.more e.is e.leads a.2 b.2
+    by_sides (shorter e) = other b.0 a.0 e.more e.is e.leads b.2 a.2
+
+one_fault : (line : List ℕ) (o p : ℕ) → IsFault line o → IsFault line p → o ≡ p
+one_fault line o p f g = by_sides (aligned (skip line) f.before g.before f.left g.left f.leads g.leads)
+  where
+    places : f.left ≡ g.left → o ≡ p
+    places e = let l : length f.left ≡ length g.left = ap length e in omega (arith, f.place, g.place)
+
+    longer_side : (more : List Token) → g.before ≡ f.before ++ more → LeadsTo f.left more g.left → o ≡ p
+    longer_side [] i l = places l
+    longer_side (k ∷ more) i l = absurd (past line o f k more g.left l (subst CanGoOn i g.goes))
+
+    shorter_side : (more : List Token) → f.before ≡ g.before ++ more → LeadsTo g.left more f.left → o ≡ p
+    shorter_side [] i l = places (sym l)
+    shorter_side (k ∷ more) i l = absurd (past line p g k more f.left l (subst CanGoOn i f.goes))
+
+    by_sides : Either f.before g.before f.left g.left → o ≡ p
+    by_sides (longer e) = longer_side e.more e.is e.leads
+    by_sides (shorter e) = shorter_side e.more e.is e.leads
+
+token_left : (bytes : List ℕ) (t : Token) (behind : List ℕ) → token_at bytes ≡ Some (t, behind) → length behind ≤ length bytes
+unfolding token_at skip
+token_left bytes t behind e = go (front_token bytes) e
+  where
+    go : (o : Option (Token × ℕ)) → option_map (with_next bytes) o ≡ Some (t, behind) → length behind ≤ length bytes
+    go None e = absurd (cc)
+    go (Some p) e =
+        let is : skip (drop p.1 bytes) ≡ behind = ap (λ x. x.1) (some_is e) in
+        subst (λ l. length l ≤ length bytes) is (omega (arith, length-drop {A = ℕ}))
+
+left_least : (here : List ℕ) (ts : List Token) (there : List ℕ) → LeadsTo here ts there → length there ≤ length here
+left_least here [] there l = let e : length here ≡ length there = ap length l in omega arith
+left_least here (t ∷ ts) there l = let a = token_left here t l.0 l.1 in let b = left_least l.0 ts there l.2 in omega arith
+
+skip_least : (line : List ℕ) → length (skip line) ≤ length line
+unfolding skip
+skip_least line = omega (arith, length-drop {A = ℕ})
+
+-- what the reading answers
+spelled : (line : List ℕ) (r : Request) → read_form request_form (skip line) ≡ whole r → LineSpells line r
+spelled line r e = let x = whole_as request_form (skip line) r e in (x.tokens, x.leads, x.is)
+
+faulty : (line left : List ℕ) → read_form request_form (skip line) ≡ stops left → IsFault line (length line - length left)
+faulty line left e =
+    let x = stops_as request_form (skip line) left requests_keep e in
+    let a = left_least (skip line) x.before left x.leads in
+    let b = skip_least line in
+    record {
+      before = x.before;
+      left = left;
+      leads = x.leads;
+      goes = (x.goes.rest, x.goes.request, x.goes.is);
+      stuck = λ t behind y c. x.stuck (t ∷ c.0) c.1 (behind, y) (subst (λ z. Spells z c.1) (append_assoc x.before (t ∷ []) c.0) c.2);
+      early = λ y r s. x.stuck [] r y (subst (λ z. Spells z r) (sym (append-nil x.before)) s);
+      place = omega arith;
+    }
+
+-- either the one or the other
+data Answer (line : List ℕ) (x : Reading) : Type 0 where
+  good : (r : Request) → x ≡ reads r → LineSpells line r → Answer line x
+  bad : (o : ℕ) → x ≡ fault o → IsFault line o → Answer line x
+
+answer : (line : List ℕ) → Answer line (reading line)
+unfolding reading
+answer line = go (read_form request_form (skip line)) refl
+  where
+    go : (e : Ending) → read_form request_form (skip line) ≡ e → Answer line (told line e)
+    go (whole r) e = good r refl (spelled line r e)
+    go (stops left) e = bad (length line - length left) refl (faulty line left e)
+
+reads_is : {r q : Request} → reads r ≡ reads q → r ≡ q
+reads_is e = cc
+
+fault_is : {o p : ℕ} → fault o ≡ fault p → o ≡ p
+fault_is e = cc
+
+pub reads_exactly : (line : List ℕ) (r : Request) → (reading line ≡ reads r) ↔ LineSpells line r
+reads_exactly line r = (there (answer line), back (answer line))
+  where
+    there : Answer line (reading line) → reading line ≡ reads r → LineSpells line r
+    there (good q e s) h = subst (LineSpells line) (reads_is (sym e ∙ h)) s
+    there (bad o e f) h = let z : fault o ≡ reads r = sym e ∙ h in absurd (cc)
+
+    back : Answer line (reading line) → LineSpells line r → reading line ≡ reads r
+    back (good q e s) h = e ∙ ap reads (one_line line q r s h)
+    back (bad o e f) h = absurd (exclusive line r o h f)
+
+pub faults_exactly : (line : List ℕ) (o : ℕ) → (reading line ≡ fault o) ↔ IsFault line o
+faults_exactly line o = (there (answer line), back (answer line))
+  where
+    there : Answer line (reading line) → reading line ≡ fault o → IsFault line o
+    there (good q e s) h = let z : reads q ≡ fault o = sym e ∙ h in absurd (cc)
+    there (bad p e f) h = subst (IsFault line) (fault_is (sym e ∙ h)) f
+
+    back : Answer line (reading line) → IsFault line o → reading line ≡ fault o
+    back (good q e s) h = absurd (exclusive line q o s h)
+    back (bad p e f) h = e ∙ ap fault (one_fault line p o f h)
+
+pub one_request : (ts : List Token) (r q : Request) → Spells ts r → Spells ts q → r ≡ q
+one_request ts r q a b = one request_form ts r q requests_keep a b
+
+-- what the reader's answers say
+
+pub begun : (line : List ℕ) (at : ℕ) → drop at line ≡ skip line → reading line ≡ told line (read_form request_form (drop at line))
+unfolding reading
+begun line at e = ap (λ l. told line (read_form request_form l)) (sym e)
+
+pub answers_ok : (f : Form) (line : List ℕ) (at : ℕ) (r : Result Request ReadError) → reading line ≡ told line (read_form f (drop at line)) → Answers f line at r → IfOk r (λ q. reading line ≡ reads q)
+answers_ok f line at (Ok q) h a = h ∙ ap (told line) a
+answers_ok f line at (Err e) h a = tt
+
+pub answers_err : (f : Form) (line : List ℕ) (at : ℕ) (r : Result Request ReadError) → reading line ≡ told line (read_form f (drop at line)) → Answers f line at r → IfErr r (λ e. (e ≡ Memory) ⊎ ((o : ℕ) × (e ≡ Syntax o) × (reading line ≡ fault o)))
+answers_err f line at (Ok q) h a = tt
+answers_err f line at (Err Memory) h a = inl refl
+answers_err f line at (Err (Syntax o)) h a =
+    let there : length line - length (drop o line) ≡ o = (let l = length-drop o line in let w = a.0 in omega (arith, l, w)) in
+    inr (o, refl, h ∙ ap (told line) a.1 ∙ ap fault there)

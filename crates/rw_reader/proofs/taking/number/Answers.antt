@@ -1,0 +1,14 @@
+use Rattle.std.proofs.Common.{sym, drop}
+use Rattle.rw_reader.specs.Forms.{a_number, takes}
+use Rattle.rw_reader.specs.Seen.{seen}
+use Rattle.rw_reader.proofs.Parts.{none_stops, misfit_stops, fits_goes, stops_here, moved}
+use Rattle.rw_reader.proofs.taking.number.Goals as goal
+
+pub returns-in-None : goal.returns-in-None
+returns-in-None c = stops_here (takes (a_number 4294967295)) c.args.line.now c.args.at.now _ c.fault-in-None.ensures c.requires.within (none_stops (a_number 4294967295) (drop c.args.at.now c.args.line.now) c.in-None.ensures)
+
+pub returns-in-None-number_within : goal.returns-in-None-number_within
+returns-in-None-number_within c = stops_here (takes (a_number 4294967295)) c.args.line.now c.args.at.now _ c.fault.ensures c.requires.within (misfit_stops (a_number 4294967295) (drop c.args.at.now c.args.line.now) (seen c.in-Some.token) _ c.in-Some.ensures.1 (sym c.in-None-number_within.ensures))
+
+pub returns-in-Some-number_within : goal.returns-in-Some-number_within
+returns-in-Some-number_within c = (moved c.args.line.now c.args.at.now c.in-Some.next c.requires c.in-Some.ensures.0, fits_goes (a_number 4294967295) (drop c.args.at.now c.args.line.now) (seen c.in-Some.token) _ _ c.in-Some.ensures.1 (sym c.in-Some-number_within.ensures))

@@ -1,0 +1,208 @@
+//! Reads a request.
+
+ghost use Rattle.std.specs.Prelude.{◌≡◌, ℕ, ◌≤◌, ◌⊎◌, length, IfOk, IfErr};
+ghost use Rattle.rw_reader.specs.Forms.{main_tree, var_form, root_form, step_form, prove_form};
+ghost use Rattle.rw_reader.specs.Reading.{reading, reads, fault};
+ghost use Rattle.rw_reader.specs.Progress.{IsPlace, Answers};
+ghost use Rattle.rw_reader.specs.declared.request.ReadError.TheVariants as read_error;
+
+use crate::request::{ReadError, Request};
+use crate::taking::{accept, atom, end, expect, number, variable};
+use crate::token::skip;
+use rw_items::Items;
+use rw_laws::step::BasicStep;
+use rw_programs::prog::{Param, Spec};
+use rw_sequents::line::{Cert, CertLine};
+use rw_terms::term::Sort;
+use rw_tree::edit::{Edit, Path, Place, Step, TreeName};
+use std::alloc::Global;
+
+/// Reads a line as a request. Its tokens spell that request; else the fault is told, where its tokens cannot go on.
+pub fn read_request(alloc: Global, line: &[u8]) -> Result<Request, ReadError>
+    requires { length line.now ≤ 65536 }
+    ensures ok { IfOk result (λ r. reading line.now ≡ reads r) }
+    ensures err { IfErr result (λ e. (e ≡ read_error.Memory) ⊎ ((o : ℕ) × (e ≡ read_error.Syntax o) × (reading line.now ≡ fault o))) }
+{
+    let mut at = skip(line, 0);
+    if accept(line, &mut at, b"var") {
+        return read_var(line, at);
+    }
+    if accept(line, &mut at, b"root") {
+        return read_root(alloc, line, at);
+    }
+    if accept(line, &mut at, b"step") {
+        return read_step(alloc, line, at);
+    }
+    if accept(line, &mut at, b"prove") {
+        return read_prove(alloc, line, at);
+    }
+    expect(line, &mut at, b"status")?;
+    end(line, at)?;
+    Ok(Request::Status)
+}
+
+// `NAME : int`
+fn read_var(line: &[u8], mut at: usize) -> Result<Request, ReadError>
+    requires { IsPlace line.now at }
+    ensures { Answers var_form line.now at result }
+{
+    let name = variable(line, &mut at)?;
+    expect(line, &mut at, b":")?;
+    expect(line, &mut at, b"int")?;
+    end(line, at)?;
+    let sort = Sort::Int;
+    Ok(Request::Edit(Edit::Var(Param { name, sort })))
+}
+
+// `NAME : [ATOM, ATOM]`
+fn read_root(alloc: Global, line: &[u8], mut at: usize) -> Result<Request, ReadError>
+    requires { IsPlace line.now at }
+    ensures { Answers root_form line.now at result }
+{
+    let name = variable(line, &mut at)?;
+    expect(line, &mut at, b":")?;
+    expect(line, &mut at, b"[")?;
+    let pre = atom(alloc, line, &mut at)?;
+    expect(line, &mut at, b",")?;
+    let post = atom(alloc, line, &mut at)?;
+    expect(line, &mut at, b"]")?;
+    end(line, at)?;
+    let mut frame = Items::new(alloc);
+    frame.push(name)?;
+    let pre = pre.into_inner();
+    let post = post.into_inner();
+    Ok(Request::Edit(Edit::Root(Spec { frame, pre, post })))
+}
+
+// `main skip`
+fn read_step(alloc: Global, line: &[u8], mut at: usize) -> Result<Request, ReadError>
+    requires { IsPlace line.now at }
+    ensures { Answers step_form line.now at result }
+{
+    expect(line, &mut at, b"main")?;
+    expect(line, &mut at, b"skip")?;
+    end(line, at)?;
+    let step = Step::Basic(BasicStep::Skip);
+    Ok(Request::Edit(Edit::Step(main_tree(alloc), step)))
+}
+
+// `main NUMBER ax`
+fn read_prove(alloc: Global, line: &[u8], mut at: usize) -> Result<Request, ReadError>
+    requires { IsPlace line.now at }
+    ensures { Answers prove_form line.now at result }
+{
+    expect(line, &mut at, b"main")?;
+    let number = number(line, &mut at)?;
+    expect(line, &mut at, b"ax")?;
+    end(line, at)?;
+    let mut lines = Items::new(alloc);
+    lines.push(CertLine::Ax)?;
+    let cert = Cert { lines };
+    Ok(Request::Edit(Edit::Prove(main_tree(alloc), number, cert)))
+}
+
+fn main_tree(alloc: Global) -> Place
+    ensures { result ≡ main_tree }
+{
+    Place {
+        tree: TreeName::Main,
+        path: Path {
+            kids: Items::new(alloc),
+        },
+    }
+}
+
+#[cfg(test)]
+mod tests {
+    use super::*;
+    use rw_items::Boxed;
+    use std::process::Abort;
+    use std::test::Fail;
+
+    fn fault_of(rt: &impl Abort, alloc: Global, line: &[u8]) -> Result<Option<u32>, Fail> {
+        assert!(rt; line.len() <= 65536);
+        match read_request(alloc, line) {
+            Ok(request) => {
+                let _request = Boxed::new(alloc, request)?;
+                Ok(None)
+            }
+            Err(ReadError::Syntax(offset)) => Ok(Some(offset)),
+            Err(ReadError::Memory) => Err(Fail::from("out of memory")),
+        }
+    }
+
+    fn agree(rt: &impl Abort, alloc: Global, cases: &[(&[u8], Option<u32>)]) -> Result<(), Fail> {
+        for (line, offset) in cases {
+            assert_eq!(rt; fault_of(rt, alloc, line)?, *offset);
+        }
+        Ok(())
+    }
+
+    #[test]
+    fn lines_are_requests_or_have_their_fault(rt: HostRuntime) -> Result<(), Fail> {
+        agree(
+            &rt,
+            rt.alloc(),
+            &[
+                (b"var x : int", None),
+                (b"root x:[x = 1, 2 = x]", None),
+                (b"root x:[true, false]", None),
+                (b"step main skip", None),
+                (b"prove main 4294967295 ax", None),
+                (b"\tstatus\r", None),
+                (b"frob", Some(0)),
+                (b"  frob", Some(2)),
+                (b"var x : array 4", Some(8)),
+                (b"root x:[true]", Some(12)),
+                (b"prove main 4294967296 ax", Some(11)),
+                (b"prove main 1", Some(12)),
+                (b"step main", Some(9)),
+                (b"status x", Some(7)),
+            ],
+        )
+    }
+
+    #[test]
+    fn tokens_are_the_longest(rt: HostRuntime) -> Result<(), Fail> {
+        agree(
+            &rt,
+            rt.alloc(),
+            &[
+                (b"var x := int", Some(6)),
+                (b"root x:[] true, true]", Some(7)),
+                (b"root x:[x == 1, true]", Some(11)),
+                (b"root x:[007 = 7, true]", Some(8)),
+                (b"root x:[0 = 00, true]", Some(12)),
+                (
+                    b"root x:[170141183460469231731687303715884105727 = 0, true]",
+                    None,
+                ),
+                (
+                    b"root x:[170141183460469231731687303715884105728 = 0, true]",
+                    Some(8),
+                ),
+                (b"root x:[_1 = 1, true]", Some(8)),
+                (b"root x:[_0 = 1, true]", Some(8)),
+                (b"var x\x00: int", Some(5)),
+                (b"var \xc8 : int", Some(4)),
+            ],
+        )
+    }
+
+    #[test]
+    fn names_are_lower_case_short_and_not_reserved(rt: HostRuntime) -> Result<(), Fail> {
+        agree(
+            &rt,
+            rt.alloc(),
+            &[
+                (b"var X : int", Some(4)),
+                (b"var int : int", Some(4)),
+                (b"var ax : int", None),
+                (b"var x0 : int", Some(4)),
+                (b"var x01 : int", None),
+                (b"var abcdefghijklmnopqrstuvwxyzabcdef : int", None),
+                (b"var abcdefghijklmnopqrstuvwxyzabcdefg : int", Some(4)),
+            ],
+        )
+    }
+}
