@@ -41,3 +41,6 @@ fn status(rt: &HostRuntime) -> u8 {
 fn main(rt: HostRuntime) -> ExitCode {
     ExitCode::from(status(&rt))
 }
+
+#[cfg(test)]
+mod tests;
