@@ -1,12 +1,11 @@
 -- Where all lines fit, none is too long.
-use Rattle.std.proofs.Common.{◌≡◌, ◌≢◌, ◌<◌, ◌≤◌, ℕ, Bool, Option, None, Some, List, [], ◌∷◌, ◌++◌, length, get_or, inl, inr, sym, ◌∙◌, ap, subst, arith, append_assoc, length-append}
-use Rattle.std.proofs.lemmas.List.{append-nil}
+use Rattle.std.proofs.Common.{◌≡◌, ℕ, Option, None, Some, List, [], ◌∷◌, ◌++◌, length, get_or, inl, inr, ◌∙◌, ap, subst, arith, append_assoc, length-append}
 use Rattle.std.proofs.Math.Seq.{get_or-append_seam}
 use Rattle.std.specs.Prelude.{IsSomeAnd}
-use Rattle.std.specs.Io.KnownBytes.{Consumes, IsAtEnd}
+use Rattle.std.specs.Io.KnownBytes.{Consumes}
 use Rattle.rw_project.specs.Lines.{whole_lines, last_part, lines_of, if_any, whole_from, rest_from}
 use Rattle.rw_project.proofs.Cutting.{lines_go_on, rest_from_append, whole_at_other, rest_at_other, first_line, some_line}
-use Rattle.derive.specs.Batch.{Fits, Overruns, AnswersAll, AnswersShort, Adds}
+use Rattle.derive.specs.Batch.{Fits, Overruns, AnswersShort, Adds}
 
 abbrev others : List ℕ → ℕ → List ℕ → List (List ℕ)
 others seen c rest = whole_from (last_part seen) (c ∷ rest) ++ if_any (rest_from (last_part seen) (c ∷ rest))
@@ -38,10 +37,3 @@ never_short (Some all) (Some rest) held held_later taken consumes adds fits =
     let a = adds.2 in
     too_long a.seen a.next (a.more ++ rest) a.overruns
     (subst (λ (l : List ℕ). Fits (lines_of l)) (consumes ∙ ap (λ (l : List ℕ). l ++ rest) a.split ∙ append_assoc a.seen (a.next ∷ a.more) rest) fits)
-
--- Where all lines are answered, they fit.
-pub never_all : (left later held held_later : Option (List ℕ)) (refused : Bool) (taken : List ℕ) → Consumes left later taken → IsAtEnd later → Adds held held_later (AnswersAll refused taken) → IsSomeAnd left (λ all. Fits (lines_of all) → ⊥) → ⊥
-never_all None later held held_later refused taken consumes end adds long = long
-never_all (Some all) None held held_later refused taken consumes end adds long = consumes
-never_all (Some all) (Some rest) held held_later refused taken consumes end adds long =
-    long (subst (λ (l : List ℕ). Fits (lines_of l)) (sym (consumes ∙ ap (λ (l : List ℕ). taken ++ l) end ∙ append-nil taken)) adds.2.fits)

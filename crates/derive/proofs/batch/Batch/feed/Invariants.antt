@@ -1,4 +1,4 @@
-use Rattle.std.proofs.Common.{◌≡◌, ◌≤◌, ◌+◌, ◌++◌, ℕ, List, Option, length, take}
+use Rattle.std.proofs.Common.{◌≤◌, ◌+◌, ◌++◌, ℕ, List, Option, take}
 use Rattle.derive.specs.Batch.{Stands, bytes_to_come}
 use Rattle.derive.proofs.batch.Batch.feed.Given as goal
 

@@ -1,4 +1,4 @@
-use Rattle.std.proofs.Common.{◌≡◌, ◌++◌, [], ℕ, List, Bool, refl, sym, ◌∙◌, ap, subst}
+use Rattle.std.proofs.Common.{[], Bool, sym, ap, subst}
 use Rattle.std.proofs.lemmas.List.{append-nil}
 use Rattle.rw_project.specs.Lines.{lines_of}
 use Rattle.rw_project.specs.Session.{session}
