@@ -1,5 +1,5 @@
 // The lines of a script, byte by byte.
-ghost use Rattle.std.specs.Prelude.{◌≡◌, ◌≤◌, ◌+◌, ◌⊎◌, ◌∷◌, ◌++◌, [], ℕ, List, Option, length, take, false, vec_len, Contains, OnOk, OnErr, IfOk, IfErr, IsErrOf};
+ghost use Rattle.std.specs.Prelude.{◌≡◌, ◌<◌, ◌≤◌, ◌+◌, ◌⊎◌, ◌∷◌, ◌++◌, [], ℕ, List, Option, length, take, false, vec_len, Contains, OnOk, OnErr, IfOk, IfErr, IsErrOf};
 ghost use Rattle.std.specs.Io.KnownBytes.{Appends};
 ghost use Rattle.rw_io.specs.Causes.{Rose, HasCause};
 ghost use Rattle.rw_project.specs.Session.{no_history};
@@ -72,6 +72,7 @@ impl Batch {
     fn flush_if_full<O: Sink>(&mut self, output: &mut O) -> Result<(), Failed>
         ensures stands { (start : Option (List ℕ)) (seen : List ℕ) → StandsAt start (O.held output.old) seen self.old
             → OnOk result (StandsAt start (O.held output.new) seen self.new) }
+        ensures little { OnOk result (vec_len self.new.pending < 65536) }
         ensures room { OnOk result (bytes_to_come self.new.line.items self.new.lines ≡ bytes_to_come self.old.line.items self.old.lines) }
         ensures err { OnErr result ((n : ℕ) × Appends (O.held output.old) (O.held output.new) (take n self.old.pending.items)) }
         ensures cause { HasCause (O.write_faults output.old) (O.write_faults output.new) result }
