@@ -60,7 +60,8 @@ impl Batch {
         ensures stands { (start : Option (List ℕ)) (seen : List ℕ) → StandsAt start (O.held output.old) seen self.old
             → OnOk result (StandsAt start (O.held output.new) seen self.new) }
         ensures others { OnOk result (self.new ≡ record self.old { pending = self.new.pending }) }
-        ensures err { OnErr result ((n : ℕ) × Appends (O.held output.old) (O.held output.new) (take n self.old.pending.items)) }
+        ensures err { OnErr result
+            ((n : ℕ) × Appends (O.held output.old) (O.held output.new) (take n self.old.pending.items)) }
         ensures cause { HasCause (O.write_faults output.old) (O.write_faults output.new) result }
     {
         write_all(output, &self.pending)?;
@@ -73,8 +74,10 @@ impl Batch {
         ensures stands { (start : Option (List ℕ)) (seen : List ℕ) → StandsAt start (O.held output.old) seen self.old
             → OnOk result (StandsAt start (O.held output.new) seen self.new) }
         ensures little { OnOk result (vec_len self.new.pending < 65536) }
-        ensures room { OnOk result (bytes_to_come self.new.line.items self.new.lines ≡ bytes_to_come self.old.line.items self.old.lines) }
-        ensures err { OnErr result ((n : ℕ) × Appends (O.held output.old) (O.held output.new) (take n self.old.pending.items)) }
+        ensures room { OnOk result
+            (bytes_to_come self.new.line.items self.new.lines ≡ bytes_to_come self.old.line.items self.old.lines) }
+        ensures err { OnErr result
+            ((n : ℕ) × Appends (O.held output.old) (O.held output.new) (take n self.old.pending.items)) }
         ensures cause { HasCause (O.write_faults output.old) (O.write_faults output.new) result }
     {
         if self.pending.len() < MOST_PENDING {
@@ -88,7 +91,8 @@ impl Batch {
     pub fn take<L: Ledger>(&mut self, byte: u8, steps: &mut Steps<L>) -> Result<(), Stop>
         ensures ok { (start held : Option (List ℕ)) (seen : List ℕ) → StandsAt start held seen self.old
             → OnOk result (StandsAt start held (seen ++ byte ∷ []) self.new) }
-        ensures room { OnOk result (bytes_to_come self.new.line.items self.new.lines + 1 ≤ bytes_to_come self.old.line.items self.old.lines) }
+        ensures room { OnOk result
+            (bytes_to_come self.new.line.items self.new.lines + 1 ≤ bytes_to_come self.old.line.items self.old.lines) }
         ensures pending { OnErr result (self.new.pending.items ≡ self.old.pending.items) }
         ensures overruns { (start held : Option (List ℕ)) (seen : List ℕ) → StandsAt start held seen self.old
             → IsErrOf result Stop.LineLimit → Overruns seen byte }
@@ -127,14 +131,16 @@ impl Batch {
         requires { length bytes.now ≤ 65536 }
         ensures ok { (start : Option (List ℕ)) (seen : List ℕ) → StandsAt start (O.held output.old) seen self.old
             → OnOk result (StandsAt start (O.held output.new) (seen ++ bytes.now) self.new) }
-        ensures room { OnOk result (bytes_to_come self.new.line.items self.new.lines + length bytes.now ≤ bytes_to_come self.old.line.items self.old.lines) }
+        ensures room { OnOk result
+            (bytes_to_come self.new.line.items self.new.lines + length bytes.now ≤ bytes_to_come self.old.line.items self.old.lines) }
         ensures memory { (start : Option (List ℕ)) (seen : List ℕ) → StandsAt start (O.held output.old) seen self.old
             → IsErrOf result Stop.Memory → Adds start (O.held output.new) (AnswersFirst (seen ++ bytes.now)) }
         ensures limit { (start : Option (List ℕ)) (seen : List ℕ) → StandsAt start (O.held output.old) seen self.old
             → IsErrOf result Stop.LineLimit → Adds start (O.held output.new) (AnswersShort (seen ++ bytes.now)) }
         ensures part { (start : Option (List ℕ)) (seen : List ℕ) → StandsAt start (O.held output.old) seen self.old
             → IsErrOf result Stop.WriteFault → Adds start (O.held output.new) (AnswersPart (seen ++ bytes.now)) }
-        ensures fault { IsErrOf result Stop.WriteFault → Rose (O.write_faults output.old) (O.write_faults output.new) }
+        ensures fault { IsErrOf result Stop.WriteFault
+            → Rose (O.write_faults output.old) (O.write_faults output.new) }
         ensures no_read { IsErrOf result Stop.ReadFault → ⊥ }
         ensures later { O.write_faults output.old ≤ O.write_faults output.new }
     {
@@ -181,7 +187,8 @@ impl Batch {
             → IsErrOf result Stop.Memory → Adds start (O.held output.new) (AnswersFirst seen) }
         ensures part { (start : Option (List ℕ)) (seen : List ℕ) → StandsAt start (O.held output.old) seen self.old
             → IsErrOf result Stop.WriteFault → Adds start (O.held output.new) (AnswersPart seen) }
-        ensures fault { IsErrOf result Stop.WriteFault → Rose (O.write_faults output.old) (O.write_faults output.new) }
+        ensures fault { IsErrOf result Stop.WriteFault
+            → Rose (O.write_faults output.old) (O.write_faults output.new) }
         ensures errors { IfErr result (λ stop. (stop ≡ Stop.Memory) ⊎ (stop ≡ Stop.WriteFault)) }
         ensures later { O.write_faults output.old ≤ O.write_faults output.new }
     {

@@ -8,7 +8,8 @@ use rw_io::{Failed, Sink};
 /// Writes all the bytes, or a front part of them.
 pub fn write_all<O: Sink>(output: &mut O, bytes: &[u8]) -> Result<(), Failed>
     ensures ok { OnOk result (Appends (O.held output.old) (O.held output.new) bytes.now) }
-    ensures err { OnErr result ((n : ℕ) × Appends (O.held output.old) (O.held output.new) (take n bytes.now)) }
+    ensures err { OnErr result
+        ((n : ℕ) × Appends (O.held output.old) (O.held output.new) (take n bytes.now)) }
     ensures cause { HasCause (O.write_faults output.old) (O.write_faults output.new) result }
 {
     let mut done = 0;

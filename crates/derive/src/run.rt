@@ -24,14 +24,21 @@ pub fn run<L: Ledger, I: Source, O: Sink>(
     requires name { blank.name ≡ L.name }
     requires parts { blank.parts ≡ L.parts }
     requires some { 0 < L.parts }
-    ensures ended { IfOk result (λ refused. Moves (I.left input.old) (I.left input.new) (O.held output.old) (O.held output.new) (AnswersAll refused)) }
+    ensures ended { IfOk result
+        (λ refused. Moves (I.left input.old) (I.left input.new) (O.held output.old) (O.held output.new) (AnswersAll refused)) }
     ensures end { OnOk result (IsAtEnd (I.left input.new)) }
-    ensures read { IsErrOf result Stop.ReadFault → Moves (I.left input.old) (I.left input.new) (O.held output.old) (O.held output.new) AnswersWhole }
-    ensures read_cause { IsErrOf result Stop.ReadFault → Rose (I.read_faults input.old) (I.read_faults input.new) }
-    ensures write { IsErrOf result Stop.WriteFault → Moves (I.left input.old) (I.left input.new) (O.held output.old) (O.held output.new) AnswersPart }
-    ensures write_cause { IsErrOf result Stop.WriteFault → Rose (O.write_faults output.old) (O.write_faults output.new) }
-    ensures memory { IsErrOf result Stop.Memory → Moves (I.left input.old) (I.left input.new) (O.held output.old) (O.held output.new) AnswersFirst }
-    ensures limit { IsErrOf result Stop.LineLimit → Moves (I.left input.old) (I.left input.new) (O.held output.old) (O.held output.new) AnswersShort }
+    ensures read { IsErrOf result Stop.ReadFault
+        → Moves (I.left input.old) (I.left input.new) (O.held output.old) (O.held output.new) AnswersWhole }
+    ensures read_cause { IsErrOf result Stop.ReadFault
+        → Rose (I.read_faults input.old) (I.read_faults input.new) }
+    ensures write { IsErrOf result Stop.WriteFault
+        → Moves (I.left input.old) (I.left input.new) (O.held output.old) (O.held output.new) AnswersPart }
+    ensures write_cause { IsErrOf result Stop.WriteFault
+        → Rose (O.write_faults output.old) (O.write_faults output.new) }
+    ensures memory { IsErrOf result Stop.Memory
+        → Moves (I.left input.old) (I.left input.new) (O.held output.old) (O.held output.new) AnswersFirst }
+    ensures limit { IsErrOf result Stop.LineLimit
+        → Moves (I.left input.old) (I.left input.new) (O.held output.old) (O.held output.new) AnswersShort }
 {
     let mut steps = Steps::<L>::new(blank);
     let mut batch = Batch::new(alloc);

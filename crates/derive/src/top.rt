@@ -42,23 +42,29 @@ pub fn top<I: Source, O: Sink, D: Disk, N: Doors>(
     ensures statuses { (result ≤ 4) ⊎ ((result ≡ 6) ⊎ (result ≡ 7)) }
 
     // The end of input: all lines are answered, and 0 says that no reply is a refusal.
-    ensures accepted { result ≡ 0 → Moves (I.left input.old) (I.left input.new) (O.held output.old) (O.held output.new) (AnswersAll false) }
-    ensures refused { result ≡ 1 → Moves (I.left input.old) (I.left input.new) (O.held output.old) (O.held output.new) (AnswersAll true) }
+    ensures accepted { result ≡ 0
+        → Moves (I.left input.old) (I.left input.new) (O.held output.old) (O.held output.new) (AnswersAll false) }
+    ensures refused { result ≡ 1
+        → Moves (I.left input.old) (I.left input.new) (O.held output.old) (O.held output.new) (AnswersAll true) }
     ensures end { result ≤ 1 → IsAtEnd (I.left input.new) }
 
     // A read fault, after the lines that LF ended.
-    ensures read { result ≡ 3 → Moves (I.left input.old) (I.left input.new) (O.held output.old) (O.held output.new) AnswersWhole }
+    ensures read { result ≡ 3
+        → Moves (I.left input.old) (I.left input.new) (O.held output.old) (O.held output.new) AnswersWhole }
     ensures read_cause { result ≡ 3 → Rose (I.read_faults input.old) (I.read_faults input.new) }
 
     // A write fault, somewhere in the session.
-    ensures write { result ≡ 4 → Moves (I.left input.old) (I.left input.new) (O.held output.old) (O.held output.new) AnswersPart }
+    ensures write { result ≡ 4
+        → Moves (I.left input.old) (I.left input.new) (O.held output.old) (O.held output.new) AnswersPart }
     ensures write_cause { result ≡ 4 → Rose (O.write_faults output.old) (O.write_faults output.new) }
 
     // Want of memory, after some first lines.
-    ensures memory { result ≡ 6 → Moves (I.left input.old) (I.left input.new) (O.held output.old) (O.held output.new) AnswersFirst }
+    ensures memory { result ≡ 6
+        → Moves (I.left input.old) (I.left input.new) (O.held output.old) (O.held output.new) AnswersFirst }
 
     // A line that is too long, or line 1,000,001; those before it were answered.
-    ensures limit { result ≡ 7 → Moves (I.left input.old) (I.left input.new) (O.held output.old) (O.held output.new) AnswersShort }
+    ensures limit { result ≡ 7
+        → Moves (I.left input.old) (I.left input.new) (O.held output.old) (O.held output.new) AnswersShort }
 
     // Without faults and with lines that fit, all of them are answered, unless memory is wanting.
     ensures complete { AsksBatch words.now.items
