@@ -1,0 +1,89 @@
+-- What the project answers to lines. A stand-in: its history has the first bytes of the lines that begin with `a`.
+use Rattle.std.specs.Prelude.{ℕ, ◌==◌, ◌||◌, ◌+◌, Bool, true, false, if◌then◌else◌, List, [], ◌∷◌, ◌++◌, length, codes, decimal}
+use Rattle.std.specs.List.{list_all}
+
+abbrev pub History : Type 0
+History = List ℕ
+
+-- before any request
+abbrev pub no_history : History
+no_history = []
+
+-- space, tab and CR
+abbrev pub is_space : ℕ → Bool
+is_space c = (c == 32) || ((c == 9) || (c == 13))
+
+-- only spaces
+abbrev pub is_blank : List ℕ → Bool
+is_blank line = list_all is_space line
+
+abbrev pub is_comment : List ℕ → Bool
+is_comment [] = false
+is_comment (c ∷ cs) = c == 35
+
+-- a line that gets no reply
+abbrev pub is_silent : List ℕ → Bool
+is_silent line = is_blank line || is_comment line
+
+-- a reply: the history after it, its body lines, its last line, and whether it is a refusal
+pub record Reply : Type 0 where
+  pub after : History
+  pub lines : List (List ℕ)
+  pub end : List ℕ
+  pub refused : Bool
+
+abbrev pub accepted : History → ℕ → Reply
+accepted history c = record { after = history ++ c ∷ []; lines = []; end = codes "ok " ++ decimal (length history + 1); refused = false }
+
+abbrev pub refusal : History → Reply
+refusal history = record { after = history; lines = codes "no request" ∷ []; end = codes "E1 syntax 0"; refused = true }
+
+-- the reply to a line that is no comment and not blank
+unfoldable pub reply : History → List ℕ → Reply
+reply history [] = refusal history
+reply history (c ∷ cs) = if c == 97 then accepted history c else refusal history
+
+-- body lines, each behind `| ` and ended by LF
+abbrev pub bodies : List (List ℕ) → List ℕ
+bodies [] = []
+bodies (line ∷ lines) = (124 ∷ 32 ∷ line ++ 10 ∷ []) ++ bodies lines
+
+-- what is written for a reply: its body lines, and its last line ended by LF
+abbrev pub text_of : List (List ℕ) → List ℕ → List ℕ
+text_of lines end = bodies lines ++ end ++ 10 ∷ []
+
+-- the history after a line
+abbrev pub after : History → List ℕ → History
+after history line = if is_silent line then history else (reply history line).after
+
+-- what is written for a line
+abbrev pub written : History → List ℕ → List ℕ
+written history line = if is_silent line then [] else text_of (reply history line).lines (reply history line).end
+
+-- whether a line is refused
+abbrev pub refuses : History → List ℕ → Bool
+refuses history line = if is_silent line then false else (reply history line).refused
+
+-- what is written for lines, after a history
+unfoldable pub session_from : History → List (List ℕ) → List ℕ
+session_from history [] = []
+session_from history (line ∷ lines) = written history line ++ session_from (after history line) lines
+
+-- whether one of them is refused
+unfoldable pub refuses_from : History → List (List ℕ) → Bool
+refuses_from history [] = false
+refuses_from history (line ∷ lines) = refuses history line || refuses_from (after history line) lines
+
+-- the history after lines
+unfoldable pub history_from : History → List (List ℕ) → History
+history_from history [] = history
+history_from history (line ∷ lines) = history_from (after history line) lines
+
+abbrev pub session : List (List ℕ) → List ℕ
+session lines = session_from no_history lines
+
+abbrev pub has_refusal : List (List ℕ) → Bool
+has_refusal lines = refuses_from no_history lines
+
+abbrev pub history_of : List (List ℕ) → History
+history_of lines = history_from no_history lines
