@@ -1,10 +1,17 @@
 //! Laws of the definitions. A caller learns them from the contract; the calls do nothing.
 
 ghost use Rattle.rw_terms.specs.Agreement.{ValuesAgree, TruthAgrees, TruthIgnores};
+ghost use Rattle.rw_terms.specs.InScope.{NamesAreExact, ValidFollows};
 
 /// Values and truth depend on the names that a term or a formula mentions, and on no other.
 pub fn agreement()
     ensures values { ValuesAgree }
     ensures truth { TruthAgrees }
     ensures ignores { TruthIgnores }
+{}
+
+/// The names of formulas in a scope, and what validity over these names says of the states of the scope.
+pub fn names_in_scope()
+    ensures exact { NamesAreExact }
+    ensures valid { ValidFollows }
 {}
