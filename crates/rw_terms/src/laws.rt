@@ -2,6 +2,7 @@
 
 ghost use Rattle.rw_terms.specs.Agreement.{ValuesAgree, TruthAgrees, TruthIgnores};
 ghost use Rattle.rw_terms.specs.InScope.{NamesAreExact, ValidFollows};
+ghost use Rattle.rw_terms.specs.Typed.{SortLaw};
 
 /// Values and truth depend on the names that a term or a formula mentions, and on no other.
 pub fn agreement()
@@ -14,4 +15,9 @@ pub fn agreement()
 pub fn names_in_scope()
     ensures exact { NamesAreExact }
     ensures valid { ValidFollows }
+{}
+
+/// In every state that fits the scope, the value of a term that keeps the rules has the sort that they give it.
+pub fn values_have_sorts()
+    ensures { SortLaw }
 {}
