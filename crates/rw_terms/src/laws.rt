@@ -3,6 +3,7 @@
 ghost use Rattle.rw_terms.specs.Agreement.{ValuesAgree, TruthAgrees, TruthIgnores};
 ghost use Rattle.rw_terms.specs.InScope.{NamesAreExact, ValidFollows};
 ghost use Rattle.rw_terms.specs.Typed.{SortLaw};
+ghost use Rattle.rw_terms.specs.Preorder.{FirstInPreorder};
 
 /// Values and truth depend on the names that a term or a formula mentions, and on no other.
 pub fn agreement()
@@ -20,4 +21,9 @@ pub fn names_in_scope()
 /// In every state that fits the scope, the value of a term that keeps the rules has the sort that they give it.
 pub fn values_have_sorts()
     ensures { SortLaw }
+{}
+
+/// A term that is refused for its sorts is refused for the first of its parts in preorder that breaks its own rule.
+pub fn faults_in_preorder()
+    ensures { FirstInPreorder }
 {}
