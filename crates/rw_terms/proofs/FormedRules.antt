@@ -1,19 +1,18 @@
 -- A report on a formula has no fault exactly where the formula keeps the rules.
-use Rattle.std.proofs.Common.{◌≡◌, ℕ, ◌+◌, Bool, true, false, ◌&&◌, List, [], ◌∷◌, map, find, length, suc, Option, Some, None, refl, sym, ap, ◌∙◌, subst, true≢false, eqb, IsTrue}
+use Rattle.std.proofs.Common.{◌≡◌, ℕ, ◌+◌, Bool, true, false, ◌&&◌, List, [], ◌∷◌, map, find, length, Option, Some, None, refl, sym, ap, ◌∙◌, subst, true≢false}
 use Rattle.std.specs.Prelude.{is_some, nat_eq}
 use Rattle.std.proofs.Math.Dec.{eqb-suc-suc, eqb-suc-zero, eqb-zero-suc}
 use Rattle.rw_terms.specs.declared.error.TermError.{TermError}
 use Rattle.rw_terms.specs.declared.scope.Entry.{Entry}
 use Rattle.rw_terms.specs.declared.scope.Head.{Head}
 use Rattle.rw_terms.specs.declared.term.Sort.{Sort}
-use Rattle.rw_terms.specs.declared.term.Sort.TheVariants.{Int, Array}
 use Rattle.rw_terms.specs.declared.term.Term.{Term}
 use Rattle.rw_terms.specs.declared.term.Formula.{Formula}
 use Rattle.rw_terms.specs.declared.term.Formula.TheOpen.{Formula-F}
 use Rattle.rw_terms.specs.declared.term.Formula.TheViews.{roll-Formula}
 use Rattle.rw_terms.specs.declared.term.Formula.TheFolds.{map-Formula, ind-Formula, fold-roll-Formula}
 use Rattle.rw_terms.specs.Sorts.{SortReport, sort_report, first_of, unless, binary}
-use Rattle.rw_terms.specs.Formed.{FormulaReport, formula_report_step, formula_report, may_be, may_equal, same_sort, is_sort, is_head, pairs_fit, takes, first_fault, equation, application}
+use Rattle.rw_terms.specs.Formed.{FormulaReport, formula_report_step, formula_report, may_be, may_equal, is_sort, is_head, pairs_fit, takes, first_fault, equation, application}
 use Rattle.rw_terms.specs.Rules.{of_ints, is_of, are_of, may_equal_of, applies, sort_in, keeps_step, keeps_rules}
 use Rattle.rw_terms.proofs.Reported.{Tells, first_none, second_none, none_none, rule_kept, keeps_rule, left_true, right_true, both_true, tells_binary, told}
 

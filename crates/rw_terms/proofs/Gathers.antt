@@ -1,12 +1,10 @@
 -- The names that are gathered from a scope are sorted, and are those that pass the test.
-use Rattle.std.proofs.Common.{◌≡◌, ℕ, Bool, true, false, cond, List, [], ◌∷◌, find, Option, Some, None, refl, sym, ◌∙◌, ap, subst, true≢false, bytes_eq}
+use Rattle.std.proofs.Common.{◌≡◌, ℕ, Bool, true, false, cond, List, [], ◌∷◌, find, Option, Some, None, refl, sym, ◌∙◌, ap, subst, bytes_eq}
 use Rattle.std.specs.Prelude.{◌||◌}
 use Rattle.std.specs.Option.{option_map}
-use Rattle.std.specs.Ordering.{nat_cmp, ordering_reverse}
-use Rattle.std.specs.Cmp.Lexicographic.{slice_cmp}
+use Rattle.std.specs.Ordering.{ordering_reverse}
 use Rattle.std.specs.declared.cmp.Ordering.{Ordering}
 use Rattle.std.specs.declared.cmp.Ordering.TheVariants.{Less, Equal, Greater}
-use Rattle.std.specs.Cmp.{IsTotalOrder}
 use Rattle.std.proofs.lemmas.Cmp.{nat_list_cmp_total, tied_itself}
 use Rattle.std.specs.FinMap.{slice_cmp-IsAntisymmetric, nat_cmp-IsAntisymmetric}
 use Rattle.std.proofs.lemmas.Slice.Eq.{bytes_eq-Decides}
@@ -15,9 +13,9 @@ use Rattle.rw_terms.specs.Names.{name_cmp}
 use Rattle.rw_terms.specs.Scopes.{has_name}
 use Rattle.rw_terms.specs.Mentions.{formulas_mention}
 use Rattle.rw_terms.specs.Named.{Named, is_named}
-use Rattle.rw_terms.specs.Naming.{by_order, placed, placed_if, gathered, names_of}
+use Rattle.rw_terms.specs.Naming.{by_order, placed, placed_if, gathered}
 use Rattle.rw_terms.specs.Validity.{Each}
-use Rattle.rw_terms.specs.InScope.{Ascending, named_by, only_if, named_in, NamesAreExact}
+use Rattle.rw_terms.specs.InScope.{Ascending, named_by, only_if, NamesAreExact}
 
 same_name : (x y : List ℕ) → name_cmp x y ≡ Equal → x ≡ y
 same_name = slice_cmp-IsAntisymmetric nat_cmp-IsAntisymmetric

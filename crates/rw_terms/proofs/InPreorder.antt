@@ -1,5 +1,5 @@
 -- What is told of a term is the first of its parts in preorder that breaks its rule.
-use Rattle.std.proofs.Common.{◌≡◌, ℕ, ◌+◌, ◌&&◌, List, [], ◌∷◌, ◌++◌, map, sum, length, suc, Option, Some, None, refl, sym, ap, ◌∙◌, subst, arith, length-append, append_assoc}
+use Rattle.std.proofs.Common.{◌≡◌, ℕ, ◌+◌, List, [], ◌∷◌, ◌++◌, map, sum, length, suc, Option, Some, None, refl, sym, ap, ◌∙◌, subst, arith, length-append}
 use Rattle.std.proofs.lemmas.List.Sums.{sum_by-cons}
 use Rattle.std.specs.List.{flat_map}
 use Rattle.rw_terms.specs.declared.error.TermError.{TermError}
@@ -10,9 +10,9 @@ use Rattle.rw_terms.specs.declared.term.Term.TheOpen.{Term-F}
 use Rattle.rw_terms.specs.declared.term.Term.TheViews.{roll-Term, out-Term, out-roll-Term}
 use Rattle.rw_terms.specs.declared.term.Term.TheFolds.{fold-Term, map-Term, ind-Term, fold-roll-Term}
 use Rattle.rw_terms.specs.Sorts.{SortReport, sort_report, sort_report_step, first_of, named, bound}
-use Rattle.rw_terms.specs.Preorder.{Listed, parts_below, listed_step, preorder, gives, own_fault, first_broken, FirstInPreorder}
+use Rattle.rw_terms.specs.Preorder.{Listed, parts_below, listed_step, preorder, own_fault, first_broken, FirstInPreorder}
 
-first_chain : (d e f : Option TermError) → first_of (first_of d e) f ≡ first_of d (first_of e f)
+pub first_chain : (d e f : Option TermError) → first_of (first_of d e) f ≡ first_of d (first_of e f)
 first_chain None e f = refl
 first_chain (Some d) e f = refl
 
@@ -165,3 +165,6 @@ module _ (scope : List Entry) (binders : List Sort) where
 
 pub first_in_preorder : FirstInPreorder
 first_in_preorder scope binders t place = (claim scope binders t).fault place
+
+pub parts_are_listed : (scope : List Entry) (binders : List Sort) (t : Term) → (sort_report scope binders t).parts ≡ length (preorder t)
+parts_are_listed scope binders t = (claim scope binders t).long

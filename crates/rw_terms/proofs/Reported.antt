@@ -8,7 +8,7 @@ use Rattle.rw_terms.specs.declared.term.Term.{Term}
 use Rattle.rw_terms.specs.declared.term.Term.TheOpen.{Term-F}
 use Rattle.rw_terms.specs.declared.term.Term.TheViews.{roll-Term}
 use Rattle.rw_terms.specs.declared.term.Term.TheFolds.{map-Term, ind-Term, fold-roll-Term}
-use Rattle.rw_terms.specs.Sorts.{SortReport, sort_report, sort_report_step, first_of, unless, may_be_int, may_be_array, is_literal, literal, named, bound, unary, binary, read, put}
+use Rattle.rw_terms.specs.Sorts.{SortReport, sort_report, sort_report_step, first_of, unless, may_be_int, may_be_array, is_literal, named, bound, unary, binary, read, put}
 use Rattle.rw_terms.specs.Rules.{of_literal, of_int, of_ints, of_read, of_put, instead, sort_step, sort_in}
 
 -- what a report tells of the sort that the rules give

@@ -1,17 +1,14 @@
 -- A sequent that is valid over the names of its formulas says the same of the states of their scope.
-use Rattle.std.proofs.Common.{◌≡◌, ◌↔◌, ℕ, Bool, true, false, ◌||◌, List, [], ◌∷◌, find, Option, Some, None, refl, sym, ◌∙◌, ap, subst, true≢false, IsTrue}
+use Rattle.std.proofs.Common.{◌≡◌, ℕ, Bool, true, false, ◌||◌, List, [], ◌∷◌, find, Option, Some, None, refl, sym, ap, subst, true≢false}
 use Rattle.std.specs.Option.{option_map}
 use Rattle.rw_terms.specs.declared.term.Formula.{Formula}
 use Rattle.rw_terms.specs.declared.scope.Entry.{Entry}
 use Rattle.rw_terms.specs.Scopes.{has_name}
 use Rattle.rw_terms.specs.Mentions.{formula_mentions, formulas_mention}
-use Rattle.rw_terms.specs.Named.{Named, is_named}
-use Rattle.rw_terms.specs.Naming.{names_of}
 use Rattle.rw_terms.specs.State.{Value, State, value_in, given, FitsEntry, Fits}
-use Rattle.rw_terms.specs.Truth.{Definition, holds}
-use Rattle.rw_terms.specs.Validity.{Each, FitsNamed, FitsNames}
+use Rattle.rw_terms.specs.Validity.{Each, FitsNamed}
 use Rattle.rw_terms.specs.Agreement.{AgreeOn}
-use Rattle.rw_terms.specs.InScope.{named_by, only_if, named_in, ValidFollows}
+use Rattle.rw_terms.specs.InScope.{named_by, only_if, ValidFollows}
 use Rattle.rw_terms.proofs.Agree.{truth_agrees}
 use Rattle.rw_terms.proofs.Gathers.{names_are_exact}
 

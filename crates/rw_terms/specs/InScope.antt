@@ -1,10 +1,9 @@
 -- What the names of formulas are in their scope, and what validity over them says of the scope's states.
-use Rattle.std.specs.Prelude.{◌≡◌, ℕ, Bool, true, false, ◌||◌, List, [], ◌∷◌, find, Option, Some, None}
+use Rattle.std.specs.Prelude.{◌≡◌, ℕ, Bool, true, false, ◌||◌, List, [], ◌∷◌, find, Option, None}
 use Rattle.std.specs.Option.{option_map}
 use Rattle.std.specs.declared.cmp.Ordering.TheVariants.{Less}
 use Rattle.rw_terms.specs.declared.term.Formula.{Formula}
 use Rattle.rw_terms.specs.declared.scope.Entry.{Entry}
-use Rattle.rw_terms.specs.declared.sequent.Sequent.{Sequent}
 use Rattle.rw_terms.specs.Names.{name_cmp}
 use Rattle.rw_terms.specs.Scopes.{has_name}
 use Rattle.rw_terms.specs.Mentions.{formulas_mention}

@@ -1,5 +1,5 @@
 -- The rules of sorts: the sort of a term whose parts all keep them, and the formulas that keep them.
-use Rattle.std.specs.Prelude.{ℕ, Bool, true, false, ◌&&◌, List, [], ◌∷◌, map, find, is_some, Option, Some, None, slice_get}
+use Rattle.std.specs.Prelude.{Bool, true, false, ◌&&◌, List, [], ◌∷◌, map, find, is_some, Option, Some, None, slice_get}
 use Rattle.rw_terms.specs.declared.term.Sort.{Sort}
 use Rattle.rw_terms.specs.declared.term.Sort.TheVariants.{Int, Array}
 use Rattle.rw_terms.specs.declared.term.Term.{Term}

@@ -3,7 +3,7 @@
 ghost use Rattle.rw_terms.specs.Agreement.{ValuesAgree, TruthAgrees, TruthIgnores};
 ghost use Rattle.rw_terms.specs.InScope.{NamesAreExact, ValidFollows};
 ghost use Rattle.rw_terms.specs.Typed.{SortLaw};
-ghost use Rattle.rw_terms.specs.Preorder.{FirstInPreorder};
+ghost use Rattle.rw_terms.specs.Preorder.{FirstInPreorder, FirstInFormula};
 
 /// Values and truth depend on the names that a term or a formula mentions, and on no other.
 pub fn agreement()
@@ -23,7 +23,8 @@ pub fn values_have_sorts()
     ensures { SortLaw }
 {}
 
-/// A term that is refused for its sorts is refused for the first of its parts in preorder that breaks its own rule.
+/// What is refused for its sorts is refused for the first of its parts in preorder that breaks its own rule.
 pub fn faults_in_preorder()
-    ensures { FirstInPreorder }
+    ensures terms { FirstInPreorder }
+    ensures formulas { FirstInFormula }
 {}
