@@ -1,9 +1,18 @@
--- What the project answers to lines. A stand-in: its history has the first bytes of the lines that begin with `a`.
-use Rattle.std.specs.Prelude.{ℕ, ◌==◌, ◌||◌, ◌+◌, Bool, true, false, if◌then◌else◌, List, [], ◌∷◌, ◌++◌, length, codes, decimal}
+-- What the project answers to lines.
+use Rattle.std.specs.Prelude.{ℕ, ◌==◌, ◌||◌, ◌+◌, Bool, true, false, if◌then◌else◌, List, [], ◌∷◌, ◌++◌, length, Option, Some, None}
 use Rattle.std.specs.List.{list_all}
+use Rattle.rw_tree.specs.declared.edit.Edit.{Edit}
+use Rattle.rw_tree.specs.declared.refusal.EditRefusal.{EditRefusal}
+use Rattle.rw_tree.specs.Refusals.{refusal_of}
+use Rattle.rw_tree.specs.Anew.{anew}
+use Rattle.rw_reader.specs.declared.request.Request.{Request}
+use Rattle.rw_reader.specs.declared.request.Request.TheVariants as request
+use Rattle.rw_reader.specs.Reading.{Reading, reads, fault, reading}
+use Rattle.rw_project.specs.Texts.{accepted_text, refusal_text, syntax_text, closing_text}
 
+-- the live edits, the newest first
 abbrev pub History : Type 0
-History = List ℕ
+History = List Edit
 
 -- before any request
 abbrev pub no_history : History
@@ -32,16 +41,23 @@ pub record Reply : Type 0 where
   pub end : List ℕ
   pub refused : Bool
 
-abbrev pub accepted : History → ℕ → Reply
-accepted history c = record { after = history ++ c ∷ []; lines = []; end = codes "ok " ++ decimal (length history + 1); refused = false }
+-- an edit is accepted and gets the next number, or it is refused and changes nothing
+abbrev pub edited : History → Edit → Option EditRefusal → Reply
+edited history edit None = record { after = edit ∷ history; lines = []; end = accepted_text (length history + 1); refused = false }
+edited history edit (Some refusal) = record { after = history; lines = []; end = refusal_text refusal; refused = true }
 
-abbrev pub refusal : History → Reply
-refusal history = record { after = history; lines = codes "no request" ∷ []; end = codes "E1 syntax 0"; refused = true }
+-- the statuses are those of checking the live edits anew
+abbrev pub reply_to : History → Request → Reply
+reply_to history (request.Edit edit) = edited history edit (refusal_of history edit)
+reply_to history request.Status = record { after = history; lines = []; end = closing_text (anew history).nodes; refused = false }
+
+abbrev pub reply_by : History → Reading → Reply
+reply_by history (reads r) = reply_to history r
+reply_by history (fault offset) = record { after = history; lines = []; end = syntax_text offset; refused = true }
 
 -- the reply to a line that is no comment and not blank
 unfoldable pub reply : History → List ℕ → Reply
-reply history [] = refusal history
-reply history (c ∷ cs) = if c == 97 then accepted history c else refusal history
+reply history line = reply_by history (reading line)
 
 -- body lines, each behind `| ` and ended by LF
 abbrev pub bodies : List (List ℕ) → List ℕ

@@ -1,5 +1,5 @@
 -- Values and truth depend on the names that a term or a formula mentions, and on no other.
-use Rattle.std.proofs.Common.{◌≡◌, ◌↔◌, ℕ, Bool, true, false, ◌||◌, Option, Some, None, List, [], ◌∷◌, map, refl, sym, ◌∙◌, ap, subst, true≢false, bytes_eq, IsTrue, ◌<ℤ◌, ◌≤ℤ◌, if◌then◌else◌, reverse}
+use Rattle.std.proofs.Common.{◌≡◌, ◌↔◌, ℕ, Bool, true, false, ◌||◌, Some, List, [], ◌∷◌, map, refl, sym, ◌∙◌, ap, subst, true≢false, bytes_eq, IsTrue, ◌<ℤ◌, ◌≤ℤ◌, if◌then◌else◌, reverse}
 use Rattle.std.proofs.lemmas.Slice.Eq.{bytes_eq-Decides}
 use Rattle.rw_terms.specs.declared.term.Sort.{Sort}
 use Rattle.rw_terms.specs.declared.term.Term.{Term}
@@ -12,9 +12,9 @@ use Rattle.rw_terms.specs.declared.term.Formula.TheViews.{roll-Formula}
 use Rattle.rw_terms.specs.declared.term.Formula.TheFolds.{map-Formula, ind-Formula, fold-roll-Formula}
 use Rattle.rw_terms.specs.Mentions.{mentions_step, mentions, terms_mention, formula_mentions_step, formula_mentions}
 use Rattle.rw_terms.specs.State.{Value, whole, HasSort, State, given, value_in, with_value}
-use Rattle.rw_terms.specs.Value.{value_step, value_by, value}
-use Rattle.rw_terms.specs.Truth.{Predicates, holds_by, Definition, predicates_of, holds}
-use Rattle.rw_terms.specs.Agreement.{AgreeOn, ValuesAgree, TruthAgrees, TruthIgnores}
+use Rattle.rw_terms.specs.Value.{value_step, value_by}
+use Rattle.rw_terms.specs.Truth.{Predicates, holds_by, predicates_of}
+use Rattle.rw_terms.specs.Agreement.{ValuesAgree, TruthAgrees, TruthIgnores}
 use Rattle.rw_terms.proofs.Truths.{to_layer, from_layer, layer_truth}
 
 left_holds : (a b : Bool) → a ≡ true → (a || b) ≡ true

@@ -1,11 +1,10 @@
 -- Which lists are texts.
-use Rattle.std.proofs.Common.{◌≡◌, ℕ, suc, ◌<◌, ◌≤◌, Bool, true, false, List, [], ◌∷◌, ◌++◌, length, IsTrue, arith, refl, sym, ap, ◌∙◌, true≢false, get_or}
-use Rattle.std.specs.Prelude.{◌&&◌, ◌||◌, leb, eqb, not}
+use Rattle.std.proofs.Common.{◌≡◌, ℕ, suc, ◌<◌, Bool, true, false, List, [], ◌∷◌, IsTrue, arith, refl, sym, ap, ◌∙◌, true≢false}
+use Rattle.std.specs.Prelude.{◌&&◌}
 use Rattle.std.specs.List.{list_all}
 use Rattle.std.specs.Str.{IsAscii}
-use Rattle.std.proofs.lemmas.List.Folds.{list_all-append}
 use Rattle.std.proofs.lemmas.Bool.Decides.{nat_tests}
-use Rattle.rw_terms.specs.Names.{is_name, is_word, is_letter, is_digit, is_between, goes_on}
+use Rattle.rw_terms.specs.Names.{is_name, is_letter, goes_on}
 use Rattle.rw_terms.specs.Texts.{is_ascii, is_ascii_byte}
 
 -- bytes that are all ASCII pass the test

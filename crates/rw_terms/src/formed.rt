@@ -3,7 +3,8 @@
 ghost use Rattle.std.specs.Prelude.{◌≡◌, ◌+◌, ◌≤◌, ◌⊎◌, [], ◌∷◌, map, find, IfOk, IfErr, option_copied};
 ghost use Rattle.rw_terms.specs.Size.{term_weight, terms_weight};
 ghost use Rattle.rw_terms.specs.Sorts.{sort_report, binary};
-ghost use Rattle.rw_terms.specs.Formed.{formula_report, may_equal, may_be, same_sort, is_sort, is_head, takes, first_fault, equation, application, IsFormed, IsFormedRefusal};
+ghost use Rattle.rw_terms.specs.Formed.{formula_report, may_equal, may_be, same_sort, is_sort, is_head, takes, first_fault, equation, application};
+ghost use Rattle.rw_terms.specs.WellFormed.{IsFormed, IsFormedRefusal};
 
 use crate::error::TermError;
 use crate::measure;

@@ -1,10 +1,30 @@
 //! Laws of the definitions. A caller learns them from the contract; the calls do nothing.
 
 ghost use Rattle.rw_terms.specs.Agreement.{ValuesAgree, TruthAgrees, TruthIgnores};
+ghost use Rattle.rw_terms.specs.InScope.{NamesAreExact, ValidFollows};
+ghost use Rattle.rw_terms.specs.Typed.{SortLaw};
+ghost use Rattle.rw_terms.specs.Preorder.{FirstInPreorder, FirstInFormula};
 
 /// Values and truth depend on the names that a term or a formula mentions, and on no other.
 pub fn agreement()
     ensures values { ValuesAgree }
     ensures truth { TruthAgrees }
     ensures ignores { TruthIgnores }
+{}
+
+/// The names of formulas in a scope, and what validity over these names says of the states of the scope.
+pub fn names_in_scope()
+    ensures exact { NamesAreExact }
+    ensures valid { ValidFollows }
+{}
+
+/// In every state that fits the scope, the value of a term that keeps the rules has the sort that they give it.
+pub fn values_have_sorts()
+    ensures { SortLaw }
+{}
+
+/// What is refused for its sorts is refused for the first of its parts in preorder that breaks its own rule.
+pub fn faults_in_preorder()
+    ensures terms { FirstInPreorder }
+    ensures formulas { FirstInFormula }
 {}

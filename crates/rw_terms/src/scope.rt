@@ -1,6 +1,6 @@
 //! The names that may be spoken of.
 
-ghost use Rattle.std.specs.Prelude.{◌≡◌, [], ◌∷◌, ◌++◌, IfOk, MatchResult, find, option_copied, IsTrue};
+ghost use Rattle.std.specs.Prelude.{◌≡◌, [], ◌∷◌, ◌++◌, IfOk, IfErr, find, option_copied, IsTrue};
 ghost use Rattle.rw_terms.specs.Scopes.{has_name, is_fresh};
 
 use crate::error::ScopeError;
@@ -89,6 +89,7 @@ impl Model for Scope {
 }
 
 impl Scope {
+    /// The scope of no name.
     pub fn new(alloc: Global) -> Scope
         ensures { result ≡ [] }
     {
@@ -104,6 +105,7 @@ impl Scope {
         Scope { entries }
     }
 
+    /// The entries, in the order in which they came.
     pub fn entries(&self) -> &[Entry]
         ensures { result.now ≡ self.now }
     {
@@ -135,7 +137,7 @@ impl Scope {
     pub fn with(&self, alloc: Global, entry: Entry) -> Result<Scope, ScopeError>
         ensures appended { IfOk result (λ s. s ≡ self.now ++ entry ∷ []) }
         ensures fresh { IfOk result (λ _. IsTrue (is_fresh entry.name self.now)) }
-        ensures not_fresh { MatchResult result (λ _. Unit {0}) (λ e. e ≡ ScopeError.NotFresh → ¬ (IsTrue (is_fresh entry.name self.now))) }
+        ensures not_fresh { IfErr result (λ e. e ≡ ScopeError.NotFresh → ¬ (IsTrue (is_fresh entry.name self.now))) }
     {
         if self.find(&entry.name).is_some() {
             return Err(ScopeError::NotFresh);

@@ -1,0 +1,55 @@
+-- What it means that a project is shown closed.
+use Rattle.std.specs.Prelude.{◌≡◌, ℕ, true, false, List, [], map, Option, Some, None}
+use Rattle.rw_terms.specs.declared.scope.Entry.{Entry}
+use Rattle.rw_terms.specs.declared.term.Formula.{Formula}
+use Rattle.rw_programs.specs.declared.prog.Spec.{Spec}
+use Rattle.rw_programs.specs.declared.prog.Prog.{Prog}
+use Rattle.rw_programs.specs.declared.prog.Prog.TheVariants as prog
+use Rattle.rw_programs.specs.State.{State, Fits, Holds}
+use Rattle.rw_programs.specs.Tables.{Table}
+use Rattle.rw_programs.specs.Refine.{Wp, Refines}
+use Rattle.rw_laws.specs.declared.step.BasicStep.TheVariants as basic
+use Rattle.rw_tree.specs.declared.edit.Edit.{Edit}
+use Rattle.rw_tree.specs.declared.edit.Step.{Step}
+use Rattle.rw_tree.specs.declared.edit.Step.TheVariants as step
+use Rattle.rw_tree.specs.Edits.{globals_of, root_of, step_at}
+use Rattle.rw_tree.specs.Anew.{global}
+use Rattle.rw_reader.specs.declared.request.Request.TheVariants as request
+use Rattle.rw_reader.specs.Reading.{reads, reading}
+use Rattle.rw_project.specs.Texts.{closed_text}
+use Rattle.rw_project.specs.Session.{History, reply}
+
+-- what the specifications are read by: no procedures, modules and definitions are there yet
+abbrev pub heads : Table
+heads = record { library = []; is_concrete = false; procs = []; modules = [] }
+
+-- what the collected program is read by
+abbrev pub table : Table
+table = record { library = []; is_concrete = true; procs = []; modules = [] }
+
+-- the names of the main tree: the globals
+abbrev pub scope_of : List Edit → List Entry
+scope_of l = map global (globals_of l)
+
+-- the program of a node's step, whose kids are none yet
+abbrev pub code_by : Option Step → Option Prog
+code_by None = None
+code_by (Some (step.Basic basic.Skip)) = Some prog.Skip
+
+-- the collected program
+abbrev pub code_of : List Edit → Option Prog
+code_of l = code_by (step_at l [])
+
+-- the collected program refines the root: for every formula the root's weakest precondition implies the program's
+pub record CodeRefinesRoot (l : List Edit) : Type 0 where
+  pub root : Spec
+  pub is_root : root_of l ≡ Some root
+  pub program : Prog
+  pub is_code : code_of l ≡ Some program
+  pub refines : Refines (scope_of l) (prog.Spec root) heads program table
+  pub preconditions : (f : Formula) (s : State) → Fits (scope_of l) s → Wp heads (prog.Spec root) (λ t. Holds [] f t t) s → Wp table program (λ t. Holds [] f t t) s
+
+-- a line asks for the status, and the reply shows the project closed
+pub record ShowsClosed (l : History) (line : List ℕ) : Type 0 where
+  pub asks : reading line ≡ reads request.Status
+  pub shows : (reply l line).end ≡ closed_text
