@@ -1,10 +1,11 @@
-//! A stand-in for the project, with the names that the batch uses.
+//! A project behind its lines: each request line gets the reply that its live edits, checked anew, are owed.
 #![tactic(auto)]
 
 mod laws;
 mod project;
 mod silent;
+mod texts;
 
-pub use laws::lines_are_the_text;
+pub use laws::{closed_is_refined, lines_are_the_text};
 pub use project::{Project, ProjectError, Reply};
 pub use silent::is_silent;

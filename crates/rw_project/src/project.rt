@@ -1,28 +1,50 @@
 // The project, and its replies.
-ghost use Rattle.std.specs.Prelude.{◌≡◌, ◌≤◌, [], false, length, Contains, IfOk, OnOk, OnErr};
-ghost use Rattle.rw_project.specs.Session.{is_silent, reply, accepted, refusal, no_history};
+ghost use Rattle.std.specs.Prelude.{◌≡◌, ◌≤◌, ◌+◌, ◌∷◌, ◌++◌, ◌×◌, ℕ, List, [], None, true, false, length, reverse, Contains, IfOk, OnOk, OnErr};
+ghost use Rattle.rw_reader.specs.declared.request.Request.TheVariants as request;
+ghost use Rattle.rw_reader.specs.Reading.{reading, reads};
+ghost use Rattle.rw_tree.specs.declared.edit.Edit.{Edit};
+ghost use Rattle.rw_tree.specs.Refusals.{refusal_of, IsGood};
+ghost use Rattle.rw_tree.specs.Anew.{anew};
+ghost use Rattle.rw_tree.specs.Parts.{Makes};
+ghost use Rattle.rw_project.specs.Texts.{closing_text, syntax_text, refusal_text};
+ghost use Rattle.rw_project.specs.Session.{is_silent, reply, reply_to, edited, no_history};
+ghost use Rattle.rw_project.specs.Headline.{ShowsClosed, CodeRefinesRoot};
 ghost use Rattle.rw_project.specs.declared.project.ProjectError.TheVariants.{Memory};
 
+use crate::texts::{accepted_text, closing_text, refusal_text, syntax_text};
 use rw_items::Items;
+use rw_reader::read_request;
+use rw_reader::request::{ReadError, Request};
 use rw_steps::Steps;
 use rw_terms::text::Text;
+use rw_tree::anew::check_anew;
+use rw_tree::edit::Edit;
+use rw_tree::parts::{Parts, apply_edit};
+use rw_tree::refusal::{EditRefusal, TreeError};
 use std::alloc::{AllocError, Global};
 use std::marker::Model;
 use std::sync::ledger::Ledger;
 use thiserror::Error;
 
+/// A project that one session works on: its accepted edits, and the derivation that they make.
 #[derive(Drop)]
 pub struct Project {
     alloc: Global,
-    history: Vec<u8>,
+    parts: Parts,
+    edits: Items<Edit>,
 }
 
 impl Model for Project {
+    ghost use Rattle.std.specs.Prelude.{◌×◌, reverse};
+    ghost use Rattle.rw_tree.specs.Refusals.{IsGood};
+    ghost use Rattle.rw_tree.specs.Parts.{Makes};
     ghost use Rattle.rw_project.specs.Session.{History};
 
     ghost Value = { History };
 
-    ghost view = { λ p. p.history.items };
+    ghost view = { λ p. reverse p.edits };
+
+    ghost invariant = { λ p. Makes (reverse p.edits) p.parts × IsGood (reverse p.edits) };
 }
 
 /// Why a request got no reply.
@@ -40,7 +62,15 @@ impl From<AllocError> for ProjectError {
     }
 }
 
-/// What is written for a request, and whether it is a refusal.
+impl From<TreeError> for ProjectError {
+    ghost from_gives = { λ _ e. e ≡ Memory };
+
+    fn from(_: TreeError) -> ProjectError {
+        ProjectError::Memory
+    }
+}
+
+/// What is written for a request: body lines, the last line, and whether it is a refusal.
 #[derive(Drop)]
 pub struct Reply {
     pub lines: Items<Text>,
@@ -49,21 +79,24 @@ pub struct Reply {
 }
 
 impl Project {
+    /// The project without edits.
     pub fn new(alloc: Global) -> Project
         ensures { result ≡ no_history }
     {
         Project {
             alloc,
-            history: Vec::new(alloc),
+            parts: Parts::empty(alloc),
+            edits: Items::new(alloc),
         }
     }
 
-    /// Answers a line that is no comment and not blank.
+    /// Answers a line that is no comment and not blank, of at most 65,536 bytes and without LF. A refused request leaves the
+    /// project as it was, and so does want of memory. One step is counted for each line of a certificate that is checked.
     #[tactic(auto, unfolding(crate::specs::Session::reply))]
     pub fn answer<L: Ledger>(
         &mut self,
         line: &[u8],
-        _steps: &mut Steps<L>,
+        steps: &mut Steps<L>,
     ) -> Result<Reply, ProjectError>
         requires short { length line.now ≤ 65536 }
         requires one_line { Contains line.now 10 → ⊥ }
@@ -72,27 +105,57 @@ impl Project {
         ensures end { IfOk result (λ r. r.end ≡ (reply self.old line.now).end) }
         ensures refused { IfOk result (λ r. r.refused ≡ (reply self.old line.now).refused) }
         ensures after { OnOk result (self.new ≡ (reply self.old line.now).after) }
+        ensures same { IfOk result (λ r. r.refused ≡ true → self.new ≡ self.old) }
         ensures err { OnErr result (self.new ≡ self.old) }
+        ensures closed { ShowsClosed self.old line.now → CodeRefinesRoot self.old }
     {
-        match line {
-            [b'a', ..] => self.accept(b'a'),
-            _ => self.refuse(),
+        match read_request(self.alloc, line) {
+            Ok(Request::Edit(edit)) => self.take(edit),
+            Ok(Request::Status) => self.tell(steps),
+            Err(ReadError::Syntax(offset)) => self.misread(offset),
+            Err(ReadError::Memory) => Err(ProjectError::Memory),
         }
     }
 
-    fn accept(&mut self, first: u8) -> Result<Reply, ProjectError>
-        ensures lines { IfOk result (λ r. r.lines ≡ (accepted self.old first).lines) }
-        ensures end { IfOk result (λ r. r.end ≡ (accepted self.old first).end) }
-        ensures refused { IfOk result (λ r. r.refused ≡ (accepted self.old first).refused) }
-        ensures after { OnOk result (self.new ≡ (accepted self.old first).after) }
+    // The reply to an edit, which is kept where it is accepted.
+    fn take(&mut self, edit: Edit) -> Result<Reply, ProjectError>
+        ensures lines { IfOk result (λ r. r.lines ≡ (edited self.old edit (refusal_of self.old edit)).lines) }
+        ensures end { IfOk result (λ r. r.end ≡ (edited self.old edit (refusal_of self.old edit)).end) }
+        ensures refused { IfOk result (λ r. r.refused ≡ (edited self.old edit (refusal_of self.old edit)).refused) }
+        ensures after { OnOk result (self.new ≡ (edited self.old edit (refusal_of self.old edit)).after) }
         ensures err { OnErr result (self.new ≡ self.old) }
     {
-        let mut end = Text::new(self.alloc);
-        end.push_str("ok ")?;
-        end.push_number(self.history.len() as u64 + 1)?;
-        if self.history.push(first).is_err() {
-            return Err(ProjectError::Memory);
+        let at = self.edits.len();
+        self.edits.push(edit)?;
+        let number = at as u64 + 1;
+        match apply(
+            self.alloc,
+            number,
+            &self.edits.as_slice()[at],
+            &mut self.parts,
+        ) {
+            Ok(reply) => {
+                if reply.refused {
+                    discard_last(&mut self.edits);
+                    return Ok(reply);
+                }
+                Ok(reply)
+            }
+            Err(error) => {
+                discard_last(&mut self.edits);
+                Err(error)
+            }
         }
+    }
+
+    // The reply to a request for the status.
+    fn tell<L: Ledger>(&self, steps: &mut Steps<L>) -> Result<Reply, ProjectError>
+        ensures lines { IfOk result (λ r. r.lines ≡ []) }
+        ensures end { IfOk result (λ r. r.end ≡ closing_text (anew self.now).nodes) }
+        ensures refused { IfOk result (λ r. r.refused ≡ false) }
+    {
+        let statuses = check_anew(self.alloc, &self.parts, steps)?;
+        let end = closing_text(self.alloc, statuses.nodes.as_slice())?;
         Ok(Reply {
             lines: Items::new(self.alloc),
             end,
@@ -100,21 +163,67 @@ impl Project {
         })
     }
 
-    fn refuse(&self) -> Result<Reply, ProjectError>
-        ensures lines { IfOk result (λ r. r.lines ≡ (refusal self.now).lines) }
-        ensures end { IfOk result (λ r. r.end ≡ (refusal self.now).end) }
-        ensures refused { IfOk result (λ r. r.refused ≡ (refusal self.now).refused) }
+    // The reply to a line that is no request.
+    fn misread(&self, offset: u32) -> Result<Reply, ProjectError>
+        ensures lines { IfOk result (λ r. r.lines ≡ []) }
+        ensures end { IfOk result (λ r. r.end ≡ syntax_text offset) }
+        ensures refused { IfOk result (λ r. r.refused ≡ true) }
     {
-        let mut body = Text::new(self.alloc);
-        body.push_str("no request")?;
-        let mut lines = Items::new(self.alloc);
-        lines.push(body)?;
-        let mut end = Text::new(self.alloc);
-        end.push_str("E1 syntax 0")?;
+        let end = syntax_text(self.alloc, offset)?;
         Ok(Reply {
-            lines,
+            lines: Items::new(self.alloc),
             end,
             refused: true,
         })
     }
+}
+
+// Takes the last item out.
+fn discard_last<T: Drop>(items: &mut Items<T>)
+    ensures { (rest : List T) (last : T) → items.old ≡ rest ++ last ∷ [] → items.new ≡ rest }
+{
+    items.pop();
+}
+
+// Applies an edit that gets this number where it is accepted, and makes the reply.
+fn apply(
+    alloc: Global,
+    number: u64,
+    edit: &Edit,
+    parts: &mut Parts,
+) -> Result<Reply, ProjectError>
+    ensures lines { IfOk result (λ r. r.lines ≡ []) }
+    ensures end { IfOk result (λ r. (l : List Edit) → Makes l parts.old → number ≡ length l + 1 → r.end ≡ (edited l edit.now (refusal_of l edit.now)).end) }
+    ensures refused { IfOk result (λ r. (l : List Edit) → Makes l parts.old → r.refused ≡ (edited l edit.now (refusal_of l edit.now)).refused) }
+    ensures made { IfOk result (λ r. r.refused ≡ false → (l : List Edit) → Makes l parts.old → Makes (edit.now ∷ l) parts.new × (refusal_of l edit.now ≡ None)) }
+    ensures same { IfOk result (λ r. r.refused ≡ true → parts.new ≡ parts.old) }
+    ensures err { OnErr result (parts.new ≡ parts.old) }
+{
+    let end = accepted_text(alloc, number)?;
+    match apply_edit(alloc, parts, edit) {
+        Ok(()) => Ok(Reply {
+            lines: Items::new(alloc),
+            end,
+            refused: false,
+        }),
+        Err(refusal) => refuse(alloc, &refusal),
+    }
+}
+
+// The reply to a refused edit.
+fn refuse(alloc: Global, refusal: &EditRefusal) -> Result<Reply, ProjectError>
+    ensures lines { IfOk result (λ r. r.lines ≡ []) }
+    ensures end { IfOk result (λ r. r.end ≡ refusal_text refusal.now) }
+    ensures refused { IfOk result (λ r. r.refused ≡ true) }
+    ensures memory { IfOk result (λ _. refusal.now ≡ EditRefusal.Memory → ⊥) }
+{
+    if let EditRefusal::Memory = refusal {
+        return Err(ProjectError::Memory);
+    }
+    let end = refusal_text(alloc, refusal)?;
+    Ok(Reply {
+        lines: Items::new(alloc),
+        end,
+        refused: true,
+    })
 }
