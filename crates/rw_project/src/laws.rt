@@ -1,5 +1,5 @@
 // What the definitions mean, in other words. Each law is the contract of a function that does nothing.
-ghost use Rattle.std.specs.Prelude.{◌≡◌, ◌++◌, ◌×◌, ℕ, List};
+ghost use Rattle.std.specs.Prelude.{◌≡◌, ◌++◌, ℕ, List};
 ghost use Rattle.rw_tree.specs.declared.edit.Edit.{Edit};
 ghost use Rattle.rw_tree.specs.Anew.{anew, IsClosed};
 ghost use Rattle.rw_project.specs.Lines.{whole_lines, last_part, with_feeds};

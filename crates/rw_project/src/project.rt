@@ -1,5 +1,5 @@
 // The project, and its replies.
-ghost use Rattle.std.specs.Prelude.{◌≡◌, ◌≤◌, ◌+◌, ◌∷◌, ◌++◌, ◌×◌, ℕ, List, [], None, true, false, length, reverse, Contains, IfOk, OnOk, OnErr};
+ghost use Rattle.std.specs.Prelude.{◌≡◌, ◌≤◌, ◌+◌, ◌∷◌, ◌++◌, ℕ, List, [], None, true, false, length, reverse, Contains, IfOk, OnOk, OnErr};
 ghost use Rattle.rw_reader.specs.declared.request.Request.TheVariants as request;
 ghost use Rattle.rw_reader.specs.Reading.{reading, reads};
 ghost use Rattle.rw_tree.specs.declared.edit.Edit.{Edit};
@@ -35,12 +35,16 @@ pub struct Project {
 }
 
 impl Model for Project {
-    ghost use Rattle.std.specs.Prelude.{◌×◌, reverse};
+    ghost use Rattle.std.specs.Prelude.{reverse};
+    ghost use Rattle.std.specs.Coded.{codes};
+    ghost use Rattle.rw_tree.specs.contracts.edit.Edit as e;
     ghost use Rattle.rw_tree.specs.Refusals.{IsGood};
     ghost use Rattle.rw_tree.specs.Parts.{Makes};
     ghost use Rattle.rw_project.specs.Session.{History};
 
     ghost Value = { History };
+
+    ghost coded = { Prim.hlevel (codes, e.the_row.coded) };
 
     ghost view = { λ p. reverse p.edits };
 
@@ -127,7 +131,7 @@ impl Project {
     {
         let at = self.edits.len();
         self.edits.push(edit)?;
-        let number = at as u64 + 1;
+        let number = self.edits.len() as u64;
         match apply(
             self.alloc,
             number,

@@ -11,4 +11,4 @@ pub returns-else-is_lower : goal.returns-else-is_lower
 returns-else-is_lower c = sym (ap (λ t. variable_of (seen t)) c.in-Text.is ∙ variable_is c.in-Text.text.now c.in-Ok.ensures.ok.1 false (sym c.is_lower.ensures ∙ c.if-is_lower.false))
 
 pub returns-in-Err : goal.returns-in-Err
-returns-in-Err c = sym (ap (λ t. variable_of (seen t)) c.in-Text.is ∙ no_variable c.in-Text.text.now c.in-Err.ensures.err)
+returns-in-Err c = sym (ap (λ t. variable_of (seen t)) c.in-Text.is ∙ no_variable c.in-Text.text.now c.in-Err.ensures.err.1)

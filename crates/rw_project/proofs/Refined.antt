@@ -1,0 +1,116 @@
+-- A closed derivation's program refines its root.
+use Rattle.std.proofs.Common.{◌≡◌, ℕ, if◌then◌else◌, List, [], ◌∷◌, ◌++◌, Option, Some, None, refl, sym, ap, ◌∙◌, get_or, arith}
+use Rattle.std.specs.Prelude.{codes}
+use Rattle.rw_terms.specs.declared.scope.Entry.{Entry}
+use Rattle.rw_terms.specs.declared.sequent.Sequent.{Sequent}
+use Rattle.rw_terms.specs.Truth.{holds}
+use Rattle.rw_terms.specs.Validity.{Valid}
+use Rattle.rw_terms.proofs.Restricted.{valid_follows}
+use Rattle.rw_programs.specs.declared.prog.Spec.{Spec}
+use Rattle.rw_programs.specs.declared.prog.Prog.TheVariants as prog
+use Rattle.rw_programs.specs.declared.applied.Context.{Context}
+use Rattle.rw_programs.specs.State.{State, Fits, Holds}
+use Rattle.rw_programs.specs.Refine.{Wp, Refines}
+use Rattle.rw_programs.proofs.Skipping.{stays}
+use Rattle.rw_terms.specs.declared.term.Formula.{Formula}
+use Rattle.rw_programs.specs.Laws.{Follows}
+use Rattle.rw_sequents.specs.declared.line.Cert.{Cert}
+use Rattle.rw_sequents.specs.declared.line.Verdict.{Verdict}
+use Rattle.rw_sequents.specs.declared.line.Verdict.TheVariants as verdicts
+use Rattle.rw_sequents.specs.After.{verdict}
+use Rattle.rw_sequents.proofs.Runs.{good_valid}
+use Rattle.rw_laws.specs.Laws.{law_of, sequent_over}
+use Rattle.rw_laws.specs.declared.step.BasicStep.TheVariants as basic
+use Rattle.rw_tree.specs.declared.edit.Edit.{Edit}
+use Rattle.rw_tree.specs.declared.edit.Step.{Step}
+use Rattle.rw_tree.specs.declared.edit.Step.TheVariants as step
+use Rattle.rw_tree.specs.declared.status.NeedState.{NeedState}
+use Rattle.rw_tree.specs.declared.status.NeedState.TheVariants as need
+use Rattle.rw_tree.specs.declared.edit.Place.{Place}
+use Rattle.rw_tree.specs.declared.status.Status.{Status}
+use Rattle.rw_tree.specs.declared.status.Status.TheVariants as status
+use Rattle.rw_tree.specs.Edits.{globals_of, root_of, step_at, cert_at}
+use Rattle.rw_tree.specs.Anew.{main_context, needs_for, needs_at, status_at, held_up, state_of, state_by, pending_from, root_place, root_status, anew, IsClosed}
+use Rattle.rw_project.specs.Texts.{is_good, closed_text, closing_text, place_text, status_text}
+use Rattle.rw_project.specs.Session.{reply, reply_by}
+use Rattle.rw_project.specs.Headline.{heads, table, scope_of, code_by, code_of, CodeRefinesRoot, ShowsClosed}
+
+-- a verdict that makes an obligation good is good
+good_verdict : (v : Verdict) → state_by v ≡ need.Good → v ≡ verdicts.Good
+good_verdict verdicts.Good e = refl
+good_verdict (verdicts.Bad line sub cause) e = absurd (cc)
+
+-- a good obligation is valid
+good_need : (q : Sequent) (cert : Option Cert) → state_of q cert ≡ need.Good → Valid [] q
+good_need q None e = absurd (cc)
+good_need q (Some cert) e = good_valid q cert (verdict q cert) refl (good_verdict (verdict q cert) e) []
+
+good_first : (k : ℕ) (state : NeedState) → held_up k state status.Good ≡ status.Good → state ≡ need.Good
+good_first k need.Good e = refl
+good_first k need.Missing e = absurd (cc)
+good_first k (need.Bad line sub cause) e = absurd (cc)
+
+-- what a valid obligation of skip says of the states of the scope
+skip_follows : (scope : List Entry) (w : Spec) → Valid [] (sequent_over scope (w.pre ∷ []) (w.post ∷ [])) → Follows scope [] w.pre (λ s. ¬ (¬ (Holds [] w.post s s)))
+skip_follows scope w valid s fits before deny = valid_follows [] scope (w.pre ∷ []) (w.post ∷ []) valid s.own s.own fits.names fits.names (before, tt) (deny, tt)
+
+-- a root that is good: its step is skip, and its obligation is valid
+record ClosedAt (context : Context) (w : Option Spec) (s : Option Step) : Type 0 where
+  pub root : Spec
+  pub is_root : w ≡ Some root
+  pub is_skip : s ≡ Some (step.Basic basic.Skip)
+  pub valid : Valid [] (sequent_over context.scope (root.pre ∷ []) (root.post ∷ []))
+
+closed_at : (context : Context) (w : Option Spec) (s : Option Step) (certs : ℕ → Option Cert) → status_at w s (needs_at context w s certs) ≡ status.Good → ClosedAt context w s
+unfolding needs_for
+closed_at context None s certs e = absurd (cc)
+closed_at context (Some w) None certs e = absurd (cc)
+closed_at context (Some w) (Some (step.Basic basic.Skip)) certs e = record {
+  root = w;
+  is_root = refl;
+  is_skip = refl;
+  valid = good_need (sequent_over context.scope (w.pre ∷ []) (w.post ∷ [])) (certs 1) (good_first 1 _ e);
+}
+
+-- skip under the table refines a specification whose obligation is valid
+skip_refines : (scope : List Entry) (w : Spec) → Valid [] (sequent_over scope (w.pre ∷ []) (w.post ∷ [])) → Refines scope (prog.Spec w) heads prog.Skip table
+skip_refines scope w valid = λ s fits sure. (tt, λ t e. stays scope [] w s fits (skip_follows scope w valid s fits sure) t e)
+
+implied : (scope : List Entry) (w : Spec) → Refines scope (prog.Spec w) heads prog.Skip table → (f : Formula) (s : State) → Fits scope s →
+    Wp heads (prog.Spec w) (λ t. Holds [] f t t) s → Wp table prog.Skip (λ t. Holds [] f t t) s
+implied scope w refines f s fits wp = let better = refines s fits wp.0 in (better.0, λ t e. wp.1 t (better.1 t e))
+
+pub closed_refined : (l : List Edit) → IsClosed l → CodeRefinesRoot l
+unfolding main_context
+closed_refined l e =
+    let c = closed_at (main_context (globals_of l)) (root_of l) (step_at l []) (cert_at l []) e in
+    let refines = skip_refines (scope_of l) c.root c.valid in record {
+      root = c.root;
+      is_root = c.is_root;
+      program = prog.Skip;
+      is_code = ap code_by c.is_skip;
+      refines = refines;
+      preconditions = implied (scope_of l) c.root refines;
+    }
+
+-- the text that shows a derivation closed is that of no other status
+fourth_differs : (rest : List ℕ) → (codes "ok not closed " ++ rest) ≡ codes "ok closed" → ⊥
+fourth_differs rest e = let at : get_or (codes "ok not closed " ++ rest) 3 0 ≡ get_or (codes "ok closed") 3 0 = ap (λ l. get_or l 3 0) e in absurd (omega (arith, at))
+
+good_told : (place : Place) (s : Status) → (if is_good s then closed_text else codes "ok not closed " ++ place_text place ++ codes " " ++ status_text s) ≡ closed_text → s ≡ status.Good
+good_told place status.NoSpec e = absurd (fourth_differs _ e)
+good_told place status.Open e = absurd (fourth_differs _ e)
+good_told place (status.Misfit m) e = absurd (fourth_differs _ e)
+good_told place (status.Pending k state) e = absurd (fourth_differs _ e)
+good_told place status.Good e = refl
+
+pub closed_exactly : (l : List Edit) → (IsClosed l → closing_text (anew l).nodes ≡ closed_text) × (closing_text (anew l).nodes ≡ closed_text → IsClosed l)
+closed_exactly l = (
+  λ e. ap (λ s. if is_good s then closed_text else codes "ok not closed " ++ place_text root_place ++ codes " " ++ status_text s) e,
+  λ e. good_told root_place (root_status l) e,
+)
+
+-- what the reply to a request for the status shows
+pub shown_refined : (l : List Edit) (line : List ℕ) → ShowsClosed l line → CodeRefinesRoot l
+unfolding reply
+shown_refined l line shows = closed_refined l ((closed_exactly l).1 (sym (ap (λ r. (reply_by l r).end) shows.asks) ∙ shows.shows))
