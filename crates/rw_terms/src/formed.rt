@@ -90,7 +90,7 @@ fn check_equation(
     check_counted(scope, binders, u, next)
 }
 
-fn may_equal(one: Option<Sort>, other: Option<Sort>) -> bool
+pub(crate) fn may_equal(one: Option<Sort>, other: Option<Sort>) -> bool
     ensures { result ≡ may_equal one other }
 {
     match one {
@@ -99,7 +99,7 @@ fn may_equal(one: Option<Sort>, other: Option<Sort>) -> bool
     }
 }
 
-fn may_be(sort: Sort, other: Option<Sort>) -> bool
+pub(crate) fn may_be(sort: Sort, other: Option<Sort>) -> bool
     ensures { result ≡ may_be sort other }
 {
     match other {
@@ -118,7 +118,7 @@ fn same_sort(one: Sort, other: Sort) -> bool
     }
 }
 
-fn is_sort(sort: Sort) -> bool
+pub(crate) fn is_sort(sort: Sort) -> bool
     ensures { result ≡ is_sort sort }
 {
     match sort {
@@ -127,7 +127,7 @@ fn is_sort(sort: Sort) -> bool
     }
 }
 
-fn find_head<'a>(heads: &'a [Head], name: &Name) -> Option<&'a Head>
+pub(crate) fn find_head<'a>(heads: &'a [Head], name: &Name) -> Option<&'a Head>
     ensures { option_copied result ≡ find (is_head name.now) heads.now }
 {
     for head in heads {
@@ -206,7 +206,7 @@ fn check_terms(scope: &Scope, binders: &[Sort], args: &[Term], place: u32) -> Re
 }
 
 // The binders with one more inside.
-fn bind(alloc: Global, sort: Sort, binders: &[Sort]) -> Result<Items<Sort>, AllocError>
+pub(crate) fn bind(alloc: Global, sort: Sort, binders: &[Sort]) -> Result<Items<Sort>, AllocError>
     ensures { IfOk result (λ inner. inner ≡ sort ∷ binders.now) }
 {
     let mut inner = Items::new(alloc);

@@ -4,6 +4,7 @@ ghost use Rattle.rw_terms.specs.Agreement.{ValuesAgree, TruthAgrees, TruthIgnore
 ghost use Rattle.rw_terms.specs.InScope.{NamesAreExact, ValidFollows};
 ghost use Rattle.rw_terms.specs.Typed.{SortLaw};
 ghost use Rattle.rw_terms.specs.Preorder.{FirstInPreorder, FirstInFormula};
+ghost use Rattle.rw_terms.specs.Faults.{FaultsApart};
 
 /// Values and truth depend on the names that a term or a formula mentions, and on no other.
 pub fn agreement()
@@ -27,4 +28,9 @@ pub fn values_have_sorts()
 pub fn faults_in_preorder()
     ensures terms { FirstInPreorder }
     ensures formulas { FirstInFormula }
+{}
+
+/// A formula keeps the rules exactly where it has no unknown name and is not ill-sorted.
+pub fn faults_apart()
+    ensures { FaultsApart }
 {}

@@ -115,13 +115,13 @@ pub fn given_sort(scope: &Scope, binders: &[Sort], term: &Term) -> Option<Sort>
     }
 }
 
-fn binder(binders: &[Sort], k: u32) -> Option<Sort>
+pub(crate) fn binder(binders: &[Sort], k: u32) -> Option<Sort>
     ensures { result ≡ slice_get binders.now k }
 {
     at(binders, k as usize).copied()
 }
 
-fn variable(scope: &Scope, name: &Name) -> Option<Sort>
+pub(crate) fn variable(scope: &Scope, name: &Name) -> Option<Sort>
     ensures { result ≡ variable_sort scope.now name.now }
 {
     let entry = scope.find(name)?;
@@ -131,7 +131,7 @@ fn variable(scope: &Scope, name: &Name) -> Option<Sort>
     }
 }
 
-fn constant(scope: &Scope, name: &Name) -> Option<Sort>
+pub(crate) fn constant(scope: &Scope, name: &Name) -> Option<Sort>
     ensures { result ≡ constant_sort scope.now name.now }
 {
     let entry = scope.find(name)?;
@@ -147,7 +147,7 @@ pub fn is_int(sort: Option<Sort>) -> bool
     !matches!(sort, Some(Sort::Array(_)))
 }
 
-fn is_array(sort: Option<Sort>) -> bool
+pub(crate) fn is_array(sort: Option<Sort>) -> bool
     ensures { result ≡ may_be_array sort }
 {
     !matches!(sort, Some(Sort::Int))
