@@ -1,6 +1,7 @@
 // The top call.
-ghost use Rattle.std.specs.Prelude.{◌≡◌, ◌≤◌, ◌↔◌, ◌⊎◌, false, true, IsTrue, IsSomeAnd};
+ghost use Rattle.std.specs.Prelude.{◌≡◌, ◌≤◌, ◌↔◌, ◌⊎◌, ℕ, List, false, true, IsTrue, IsSomeAnd};
 ghost use Rattle.rw_project.specs.Lines.{lines_of};
+ghost use Rattle.rw_project.specs.Headline.{ClosedIsRefined};
 ghost use Rattle.std.specs.Io.KnownBytes.{IsAtEnd};
 ghost use Rattle.rw_io.specs.Causes.{Rose};
 ghost use Rattle.derive.specs.Batch.{AsksBatch, Moves, Fits, AnswersAll, AnswersWhole, AnswersPart, AnswersFirst, AnswersShort};
@@ -23,6 +24,7 @@ fn asks_batch(words: &Vec<String>) -> bool
 }
 
 /// Does what the words ask for, and answers the status.
+#[tactic(auto, using(rw_project::proofs::Refined::session_refined))]
 pub fn top<I: Source, O: Sink, D: Disk, N: Doors>(
     alloc: Global,
     words: &Vec<String>,
@@ -79,6 +81,10 @@ pub fn top<I: Source, O: Sink, D: Disk, N: Doors>(
         → (Rose (O.write_faults output.old) (O.write_faults output.new) → ⊥)
         → IsSomeAnd (I.left input.old) (λ all. Fits (lines_of all) → ⊥)
         → (result ≡ 6) ⊎ (result ≡ 7) }
+
+    // The headline: whatever lines are answered, each status is that of checking the live edits anew (so the session is
+    // defined), and where a reply shows the derivation closed, the collected program refines its root.
+    ensures headline { (lines : List (List ℕ)) → ClosedIsRefined lines }
 {
     if !asks_batch(words) {
         return 2;

@@ -32,8 +32,8 @@ use Rattle.rw_tree.specs.declared.status.Status.TheVariants as status
 use Rattle.rw_tree.specs.Edits.{globals_of, root_of, step_at, cert_at}
 use Rattle.rw_tree.specs.Anew.{main_context, needs_for, needs_at, status_at, held_up, state_of, state_by, pending_from, root_place, root_status, anew, IsClosed}
 use Rattle.rw_project.specs.Texts.{is_good, closed_text, closing_text, place_text, status_text}
-use Rattle.rw_project.specs.Session.{reply, reply_by}
-use Rattle.rw_project.specs.Headline.{heads, table, scope_of, code_by, code_of, CodeRefinesRoot, ShowsClosed}
+use Rattle.rw_project.specs.Session.{history_of, reply, reply_by}
+use Rattle.rw_project.specs.Headline.{heads, table, scope_of, code_by, code_of, CodeRefinesRoot, ShowsClosed, ClosedIsRefined}
 
 -- a verdict that makes an obligation good is good
 good_verdict : (v : Verdict) → state_by v ≡ need.Good → v ≡ verdicts.Good
@@ -114,3 +114,7 @@ closed_exactly l = (
 pub shown_refined : (l : List Edit) (line : List ℕ) → ShowsClosed l line → CodeRefinesRoot l
 unfolding reply
 shown_refined l line shows = closed_refined l ((closed_exactly l).1 (sym (ap (λ r. (reply_by l r).end) shows.asks) ∙ shows.shows))
+
+-- the headline, for any session
+pub session_refined : (lines : List (List ℕ)) → ClosedIsRefined lines
+session_refined lines before line behind split shows = shown_refined (history_of before) line shows

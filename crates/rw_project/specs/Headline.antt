@@ -1,5 +1,5 @@
 -- What it means that a project is shown closed.
-use Rattle.std.specs.Prelude.{◌≡◌, ℕ, true, false, List, [], map, Option, Some, None}
+use Rattle.std.specs.Prelude.{◌≡◌, ℕ, true, false, List, [], ◌∷◌, ◌++◌, map, Option, Some, None}
 use Rattle.rw_terms.specs.declared.scope.Entry.{Entry}
 use Rattle.rw_terms.specs.declared.term.Formula.{Formula}
 use Rattle.rw_programs.specs.declared.prog.Spec.{Spec}
@@ -17,7 +17,7 @@ use Rattle.rw_tree.specs.Anew.{global}
 use Rattle.rw_reader.specs.declared.request.Request.TheVariants as request
 use Rattle.rw_reader.specs.Reading.{reads, reading}
 use Rattle.rw_project.specs.Texts.{closed_text}
-use Rattle.rw_project.specs.Session.{History, reply}
+use Rattle.rw_project.specs.Session.{History, history_of, reply}
 
 -- what the specifications are read by: no procedures, modules and definitions are there yet
 abbrev pub heads : Table
@@ -53,3 +53,8 @@ pub record CodeRefinesRoot (l : List Edit) : Type 0 where
 pub record ShowsClosed (l : History) (line : List ℕ) : Type 0 where
   pub asks : reading line ≡ reads request.Status
   pub shows : (reply l line).end ≡ closed_text
+
+-- wherever a line of a session gets a reply that shows the project closed, the collected program refines the root
+abbrev pub ClosedIsRefined : List (List ℕ) → Type 0
+ClosedIsRefined lines =
+    (before : List (List ℕ)) (line : List ℕ) (behind : List (List ℕ)) → lines ≡ before ++ line ∷ behind → ShowsClosed (history_of before) line → CodeRefinesRoot (history_of before)
