@@ -24,7 +24,6 @@ fn asks_batch(words: &Vec<String>) -> bool
 }
 
 /// Does what the words ask for, and answers the status.
-#[tactic(auto, using(rw_project::proofs::Refined::session_refined))]
 pub fn top<I: Source, O: Sink, D: Disk, N: Doors>(
     alloc: Global,
     words: &Vec<String>,
