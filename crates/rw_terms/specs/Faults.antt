@@ -1,7 +1,7 @@
 -- The two kinds of fault apart: names that are not known, and parts with a sort that their rule does not take.
-use Rattle.std.specs.Prelude.{◌≡◌, ◌↔◌, ℕ, IsTrue, Bool, true, false, not, ◌&&◌, ◌||◌, nat_eq, length, List, [], ◌∷◌, map, find, is_some, Option, Some, None, slice_get}
+use Rattle.std.specs.Prelude.{◌≡◌, ◌↔◌, ℕ, IsTrue, Bool, true, false, not, ◌&&◌, ◌||◌, nat_eq, length, List, [], ◌∷◌, map, find, Option, Some, None, slice_get}
 use Rattle.rw_terms.specs.declared.term.Sort.{Sort}
-use Rattle.rw_terms.specs.declared.term.Sort.TheVariants.{Int, Array}
+use Rattle.rw_terms.specs.declared.term.Sort.TheVariants.{Int}
 use Rattle.rw_terms.specs.declared.term.Term.{Term}
 use Rattle.rw_terms.specs.declared.term.Term.TheOpen.{Term-F}
 use Rattle.rw_terms.specs.declared.term.Term.TheFolds.{fold-Term}
