@@ -190,12 +190,7 @@ fn discard_last<T: Drop>(items: &mut Items<T>)
 }
 
 // Applies an edit that gets this number where it is accepted, and makes the reply.
-fn apply(
-    alloc: Global,
-    number: u64,
-    edit: &Edit,
-    parts: &mut Parts,
-) -> Result<Reply, ProjectError>
+fn apply(alloc: Global, number: u64, edit: &Edit, parts: &mut Parts) -> Result<Reply, ProjectError>
     ensures lines { IfOk result (λ r. r.lines ≡ []) }
     ensures end { IfOk result (λ r. (l : List Edit) → Makes l parts.old → number ≡ length l + 1 → r.end ≡ (edited l edit.now (refusal_of l edit.now)).end) }
     ensures refused { IfOk result (λ r. (l : List Edit) → Makes l parts.old → r.refused ≡ (edited l edit.now (refusal_of l edit.now)).refused) }

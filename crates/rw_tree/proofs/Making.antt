@@ -20,7 +20,7 @@ use Rattle.rw_tree.proofs.Sizes.{held, held_sized, length_sized, held_set}
 -- no step has a kid
 no_kid_above : (n k : ℕ) → n ≡ 0 → (nat_le 1 k && nat_le k n) ≡ false
 no_kid_above n k z = elim (leb_tells 1 k) [
-  | inl h ↦ rw h.0 (elim (leb_tells k n) [ | inl g ↦ absurd (omega (arith, h.1, g.1, z)) | inr g ↦ g.0 ])
+  | inl h ↦ rw h.0 (elim (leb_tells k n) [ inl g ↦ absurd (omega (arith, h.1, g.1, z)) | inr g ↦ g.0 ])
   | inr h ↦ rw h.0 refl
 ]
 

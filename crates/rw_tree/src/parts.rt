@@ -168,11 +168,7 @@ impl Node {
 }
 
 // Cuts the certificates to this many, or adds places without one.
-fn resize(
-    alloc: Global,
-    certs: &mut Items<Option<Cert>>,
-    count: usize,
-) -> Result<(), AllocError>
+fn resize(alloc: Global, certs: &mut Items<Option<Cert>>, count: usize) -> Result<(), AllocError>
     ensures ok { OnOk result (certs.new ≡ resized count certs.old) }
     ensures err { OnErr result (certs.new ≡ certs.old) }
 {

@@ -79,7 +79,10 @@ fn term_unknown<'a>(globals: &[Param], term: &'a Term) -> Option<&'a Name>
         ),
         Term::Put(a, i, e) => or_else(
             term_unknown(globals, a.get()),
-            or_else(term_unknown(globals, i.get()), term_unknown(globals, e.get())),
+            or_else(
+                term_unknown(globals, i.get()),
+                term_unknown(globals, e.get()),
+            ),
         ),
         Term::Fun(f, _) => Some(f),
     }
