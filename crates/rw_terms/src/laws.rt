@@ -3,6 +3,7 @@
 ghost use Rattle.rw_terms.specs.Agreement.{ValuesAgree, TruthAgrees, TruthIgnores};
 ghost use Rattle.rw_terms.specs.InScope.{NamesAreExact, ValidFollows};
 ghost use Rattle.rw_terms.specs.Typed.{SortLaw};
+ghost use Rattle.rw_terms.specs.Rounding.{QuotientLaw, RestOfPositive, RestOfNegative, ByZero};
 ghost use Rattle.rw_terms.specs.Preorder.{FirstInPreorder, FirstInFormula};
 ghost use Rattle.rw_terms.specs.Faults.{FaultsApart};
 
@@ -33,4 +34,12 @@ pub fn faults_in_preorder()
 /// A formula keeps the rules exactly where it has no unknown name and is not ill-sorted.
 pub fn faults_apart()
     ensures { FaultsApart }
+{}
+
+/// The quotient rounds to minus infinity, the rest has the sign of the divisor, and by 0 both are 0.
+pub fn division()
+    ensures quotient { QuotientLaw }
+    ensures positive { RestOfPositive }
+    ensures negative { RestOfNegative }
+    ensures zero { ByZero }
 {}
