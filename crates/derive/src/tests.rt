@@ -79,6 +79,8 @@ fn refusals_change_nothing(rt: HostRuntime) -> Result<(), Fail> {
         &rt,
         &[
             ("var x : array 4", 1, "E1 syntax 8\n"),
+            ("var \0", 1, "E1 syntax 4\n"),
+            ("var é : int", 1, "E1 syntax 4\n"),
             ("frob", 1, "E1 syntax 0\n"),
             (
                 "var x : int\nvar x : int\nvar y : int",
