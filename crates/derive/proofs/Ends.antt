@@ -8,7 +8,7 @@ use Rattle.std.proofs.lemmas.Grind.{common_steps}
 use Rattle.std.specs.Io.KnownBytes.{Appends, Consumes, Keeps}
 use Rattle.rw_project.specs.Lines.{whole_lines, last_part, lines_of, if_any, whole_from}
 use Rattle.rw_project.specs.Session.{History, no_history, written, refuses, session, has_refusal, history_of}
-use Rattle.rw_project.proofs.Cutting.{lines_go_on}
+use Rattle.rw_project.proofs.Cutting.{whole_from_append}
 use Rattle.rw_project.proofs.Runs.{session_push, refuses_push, session_none, refuses_none, history_none}
 use Rattle.derive.specs.Batch.{Stands, Short, Fits, Overruns, Adds, AddsPending, AnswersAll, AnswersWhole, AnswersPart, AnswersFirst, AnswersShort, AnswersFront}
 
@@ -136,22 +136,27 @@ session_goes_on xs (line ∷ ys) =
       ap session (sym (append_assoc xs (line ∷ []) ys)) ∙ rest.1 ∙ ap (λ (l : List ℕ). l ++ rest.0) (session_push xs line) ∙ append_assoc (session xs) one rest.0,
     )
 
--- a front part of the session of the whole lines is one of that of all lines of what the text goes on to
-pub part_of : (start later : Option (List ℕ)) (seen more taken : List ℕ) → taken ≡ seen ++ more → Adds start later (AnswersFront seen) → Adds start later (AnswersPart taken)
+-- a front part of the session of the whole lines is one of that of the whole lines of what the text goes on to
+pub part_of : (start later : Option (List ℕ)) (seen more taken : List ℕ) → taken ≡ seen ++ more → Adds start later (AnswersFront seen) → Adds start later (AnswersFront taken)
 part_of start later seen more taken is front =
-    let others = whole_from (last_part seen) more ++ if_any (last_part (seen ++ more)) in
-    let rest = session_goes_on (whole_lines seen) others in
-    let whole : session (lines_of (seen ++ more)) ≡ session (whole_lines seen) ++ rest.0 = ap session (lines_go_on seen more) ∙ rest.1 in (
+    let rest = session_goes_on (whole_lines seen) (whole_from (last_part seen) more) in
+    let whole : session (whole_lines (seen ++ more)) ≡ session (whole_lines seen) ++ rest.0 = ap session (whole_from_append [] seen more) ∙ rest.1 in (
       front.0,
       front.1,
       (
         front.2.0 ++ rest.0,
-        sym (append_assoc front.0 front.2.0 rest.0) ∙ ap (λ (l : List ℕ). l ++ rest.0) front.2.1 ∙ sym whole ∙ ap (λ (l : List ℕ). session (lines_of l)) (sym is),
+        sym (append_assoc front.0 front.2.0 rest.0) ∙ ap (λ (l : List ℕ). l ++ rest.0) front.2.1 ∙ sym whole ∙ ap (λ (l : List ℕ). session (whole_lines l)) (sym is),
       ),
     )
 
+-- and one of that of all lines
+pub part_of_all : (start later : Option (List ℕ)) (seen : List ℕ) → Adds start later (AnswersFront seen) → Adds start later (AnswersPart seen)
+part_of_all start later seen front =
+    let rest = session_goes_on (whole_lines seen) (if_any (last_part seen)) in
+    (front.0, front.1, (front.2.0 ++ rest.0, sym (append_assoc front.0 front.2.0 rest.0) ∙ ap (λ (l : List ℕ). l ++ rest.0) front.2.1 ∙ sym rest.1))
+
 -- a write fault
-pub part_at : (start held later : Option (List ℕ)) (pending pending' seen : List ℕ) (history : History) (line : List ℕ) (lines n : ℕ) (refused : Bool) (more taken : List ℕ) → taken ≡ seen ++ more → Stands start held pending seen history line lines refused → pending' ≡ pending → Appends held later (take n pending') → Adds start later (AnswersPart taken)
+pub part_at : (start held later : Option (List ℕ)) (pending pending' seen : List ℕ) (history : History) (line : List ℕ) (lines n : ℕ) (refused : Bool) (more taken : List ℕ) → taken ≡ seen ++ more → Stands start held pending seen history line lines refused → pending' ≡ pending → Appends held later (take n pending') → Adds start later (AnswersFront taken)
 part_at start held later pending pending' seen history line lines n refused more taken is s same adds =
     part_of start later seen more taken is (cuts start held later pending (session (whole_lines seen)) n s.output (subst (λ (l : List ℕ). Appends held later (take n l)) same adds))
 

@@ -2,7 +2,7 @@
 use Rattle.std.specs.Prelude.{◌≡◌, ◌≢◌, ◌⊎◌, ℕ, ◌+◌, ◌-◌, ◌*◌, ◌<◌, ◌≤◌, Bool, List, [], ◌∷◌, ◌++◌, length, map, codes, All, Option, String, string_bytes}
 use Rattle.std.specs.declared.alloc.Global.{Global}
 use Rattle.derive.specs.declared.batch.Batch.{Batch}
-use Rattle.std.specs.Io.KnownBytes.{Appends, Consumes}
+use Rattle.std.specs.Io.KnownBytes.{Appends, Consumes, IsAtEnd}
 use Rattle.rw_project.specs.Lines.{whole_lines, last_part, lines_of}
 use Rattle.rw_project.specs.Session.{History, session, has_refusal, history_of}
 
@@ -42,16 +42,25 @@ pub record AnswersWhole (taken added : List ℕ) : Type 0 where
   pub text : added ≡ session (whole_lines taken)
   pub fits : Fits (lines_of taken)
 
--- the answers end somewhere
+-- what was added is a front part of the session of the lines that LF ends
+abbrev pub AnswersFront : List ℕ → List ℕ → Type 0
+AnswersFront taken added = (more : List ℕ) × (added ++ more ≡ session (whole_lines taken))
+
+-- what was added is a front part of the session of all lines
 abbrev pub AnswersPart : List ℕ → List ℕ → Type 0
 AnswersPart taken added = (more : List ℕ) × (added ++ more ≡ session (lines_of taken))
+
+-- a front part of the session of the lines that LF ends, or, where the input was read to its end, of that of all lines
+abbrev pub Cuts : Option (List ℕ) → Option (List ℕ) → Option (List ℕ) → Option (List ℕ) → Type 0
+Cuts left left_after held held_after =
+    Moves left left_after held held_after AnswersFront ⊎ (IsAtEnd left_after × Moves left left_after held held_after AnswersPart)
 
 -- some first lines are answered, and no part of the next reply is
 abbrev pub AnswersFirst : List ℕ → List ℕ → Type 0
 AnswersFirst taken added = (seen : List ℕ) × (more : List ℕ) × (taken ≡ seen ++ more) × (added ≡ session (whole_lines seen))
 
--- the next byte makes a line too long or begins line 1,000,001; the lines before it, which fit, are answered, and no
--- more bytes were taken than come with it
+-- the next byte makes a line too long or begins line 1,000,001; the lines before it, which fit, are answered, and fewer than
+-- 65,536 bytes were taken behind it
 pub record AnswersShort (taken added : List ℕ) : Type 0 where
   pub seen : List ℕ
   pub next : ℕ
@@ -85,7 +94,3 @@ StandsAt start held seen batch = Stands start held batch.pending.items seen batc
 -- how many bytes are still taken at most
 abbrev pub bytes_to_come : List ℕ → ℕ → ℕ
 bytes_to_come line lines = 65537 * (1000000 - lines) + (65536 - length line)
-
--- a front part of the session of the lines that LF ends
-abbrev pub AnswersFront : List ℕ → List ℕ → Type 0
-AnswersFront seen added = (more : List ℕ) × (added ++ more ≡ session (whole_lines seen))

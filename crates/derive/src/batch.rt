@@ -34,7 +34,7 @@ pub struct Batch {
 }
 
 impl Batch {
-    ghost use Rattle.derive.specs.Batch.{StandsAt, Overruns, bytes_to_come, AnswersAll, AnswersPart, AnswersFirst, AnswersShort, Adds, AddsPending};
+    ghost use Rattle.derive.specs.Batch.{StandsAt, Overruns, bytes_to_come, AnswersAll, AnswersFront, AnswersPart, AnswersFirst, AnswersShort, Adds, AddsPending};
 
     pub fn new(alloc: Global) -> Self
         ensures project { result.project ≡ no_history }
@@ -121,7 +121,7 @@ impl Batch {
         Ok(())
     }
 
-    /// Takes these bytes, and answers the lines that they end. Where it stops, what was pending is written out.
+    /// Takes these bytes, and answers the lines that they end. Where it stops, what was pending is written out first.
     pub fn feed<L: Ledger, O: Sink>(
         &mut self,
         bytes: &[u8],
@@ -138,7 +138,7 @@ impl Batch {
         ensures limit { (start : Option (List ℕ)) (seen : List ℕ) → StandsAt start (O.held output.old) seen self.old
             → IsErrOf result Stop.LineLimit → Adds start (O.held output.new) (AnswersShort (seen ++ bytes.now)) }
         ensures part { (start : Option (List ℕ)) (seen : List ℕ) → StandsAt start (O.held output.old) seen self.old
-            → IsErrOf result Stop.WriteFault → Adds start (O.held output.new) (AnswersPart (seen ++ bytes.now)) }
+            → IsErrOf result Stop.WriteFault → Adds start (O.held output.new) (AnswersFront (seen ++ bytes.now)) }
         ensures fault { IsErrOf result Stop.WriteFault
             → Rose (O.write_faults output.old) (O.write_faults output.new) }
         ensures no_read { IsErrOf result Stop.ReadFault → ⊥ }

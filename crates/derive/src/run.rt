@@ -2,7 +2,7 @@
 ghost use Rattle.std.specs.Prelude.{◌≡◌, ◌<◌, OnOk, IfOk, IsErrOf};
 ghost use Rattle.std.specs.Io.KnownBytes.{IsAtEnd};
 ghost use Rattle.rw_io.specs.Causes.{Rose};
-ghost use Rattle.derive.specs.Batch.{Moves, AnswersAll, AnswersWhole, AnswersPart, AnswersFirst, AnswersShort};
+ghost use Rattle.derive.specs.Batch.{Moves, AnswersAll, Cuts, AnswersWhole, AnswersFirst, AnswersShort};
 
 use crate::batch::Batch;
 use crate::stop::Stop;
@@ -32,7 +32,7 @@ pub fn run<L: Ledger, I: Source, O: Sink>(
     ensures read_cause { IsErrOf result Stop.ReadFault
         → Rose (I.read_faults input.old) (I.read_faults input.new) }
     ensures write { IsErrOf result Stop.WriteFault
-        → Moves (I.left input.old) (I.left input.new) (O.held output.old) (O.held output.new) AnswersPart }
+        → Cuts (I.left input.old) (I.left input.new) (O.held output.old) (O.held output.new) }
     ensures write_cause { IsErrOf result Stop.WriteFault
         → Rose (O.write_faults output.old) (O.write_faults output.new) }
     ensures memory { IsErrOf result Stop.Memory

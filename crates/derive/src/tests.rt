@@ -83,6 +83,11 @@ fn refusals_change_nothing(rt: HostRuntime) -> Result<(), Fail> {
             ("var é : int", 1, "E1 syntax 4\n"),
             ("frob", 1, "E1 syntax 0\n"),
             (
+                "var x : int\nroot x:[A = 1, true]\nroot A:[true, true]",
+                1,
+                "ok 1\nE2 unknown A\nE1 syntax 5\n",
+            ),
+            (
                 "var x : int\nvar x : int\nvar y : int",
                 1,
                 "ok 1\nE3 duplicate x\nok 2\n",

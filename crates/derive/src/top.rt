@@ -1,10 +1,10 @@
 // The top call.
 ghost use Rattle.std.specs.Prelude.{◌≡◌, ◌≤◌, ◌↔◌, ◌⊎◌, ℕ, List, false, true, IsTrue, IsSomeAnd};
 ghost use Rattle.rw_project.specs.Lines.{lines_of};
-ghost use Rattle.rw_project.specs.Headline.{ClosedIsRefined};
+ghost use Rattle.rw_project.specs.Headline.{Headline};
 ghost use Rattle.std.specs.Io.KnownBytes.{IsAtEnd};
 ghost use Rattle.rw_io.specs.Causes.{Rose};
-ghost use Rattle.derive.specs.Batch.{AsksBatch, Moves, Fits, AnswersAll, AnswersWhole, AnswersPart, AnswersFirst, AnswersShort};
+ghost use Rattle.derive.specs.Batch.{AsksBatch, Moves, Fits, AnswersAll, Cuts, AnswersWhole, AnswersFirst, AnswersShort};
 
 use crate::run::run;
 use crate::stop::Stop;
@@ -54,9 +54,9 @@ pub fn top<I: Source, O: Sink, D: Disk, N: Doors>(
         → Moves (I.left input.old) (I.left input.new) (O.held output.old) (O.held output.new) AnswersWhole }
     ensures read_cause { result ≡ 3 → Rose (I.read_faults input.old) (I.read_faults input.new) }
 
-    // A write fault, somewhere in the session.
+    // A write fault, somewhere in the session of the lines that LF ended, or, at the end of input, of all lines.
     ensures write { result ≡ 4
-        → Moves (I.left input.old) (I.left input.new) (O.held output.old) (O.held output.new) AnswersPart }
+        → Cuts (I.left input.old) (I.left input.new) (O.held output.old) (O.held output.new) }
     ensures write_cause { result ≡ 4 → Rose (O.write_faults output.old) (O.write_faults output.new) }
 
     // Want of memory, after some first lines.
@@ -81,9 +81,9 @@ pub fn top<I: Source, O: Sink, D: Disk, N: Doors>(
         → IsSomeAnd (I.left input.old) (λ all. Fits (lines_of all) → ⊥)
         → (result ≡ 6) ⊎ (result ≡ 7) }
 
-    // The headline: whatever lines are answered, each status is that of checking the live edits anew (so the session is
-    // defined), and where a reply shows the derivation closed, the collected program refines its root.
-    ensures headline { (lines : List (List ℕ)) → ClosedIsRefined lines }
+    // The headline, of whatever lines are answered: each status is that of checking the live edits anew, the derivation is shown
+    // closed exactly where it is, and then the collected program refines its root.
+    ensures headline { (lines : List (List ℕ)) → Headline lines }
 {
     if !asks_batch(words) {
         return 2;

@@ -5,7 +5,6 @@ use Rattle.rw_terms.specs.declared.scope.Entry.{Entry}
 use Rattle.rw_terms.specs.declared.sequent.Sequent.{Sequent}
 use Rattle.rw_terms.specs.Naming.{names_of}
 use Rattle.rw_programs.specs.declared.prog.Spec.{Spec}
-use Rattle.rw_programs.specs.declared.prog.Prog.{Prog}
 use Rattle.rw_programs.specs.declared.prog.Prog.TheVariants as prog
 use Rattle.rw_programs.specs.declared.applied.Context.{Context}
 use Rattle.rw_programs.specs.declared.applied.Applied.{Applied}

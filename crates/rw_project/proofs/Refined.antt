@@ -1,9 +1,8 @@
 -- A closed derivation's program refines its root.
-use Rattle.std.proofs.Common.{◌≡◌, ℕ, if◌then◌else◌, List, [], ◌∷◌, ◌++◌, Option, Some, None, refl, sym, ap, ◌∙◌, get_or, arith}
+use Rattle.std.proofs.Common.{◌≡◌, ◌↔◌, ℕ, if◌then◌else◌, List, [], ◌∷◌, ◌++◌, Option, Some, None, refl, sym, ap, ◌∙◌, get_or, arith}
 use Rattle.std.specs.Prelude.{codes}
 use Rattle.rw_terms.specs.declared.scope.Entry.{Entry}
 use Rattle.rw_terms.specs.declared.sequent.Sequent.{Sequent}
-use Rattle.rw_terms.specs.Truth.{holds}
 use Rattle.rw_terms.specs.Validity.{Valid}
 use Rattle.rw_terms.proofs.Restricted.{valid_follows}
 use Rattle.rw_programs.specs.declared.prog.Spec.{Spec}
@@ -19,7 +18,7 @@ use Rattle.rw_sequents.specs.declared.line.Verdict.{Verdict}
 use Rattle.rw_sequents.specs.declared.line.Verdict.TheVariants as verdicts
 use Rattle.rw_sequents.specs.After.{verdict}
 use Rattle.rw_sequents.proofs.Runs.{good_valid}
-use Rattle.rw_laws.specs.Laws.{law_of, sequent_over}
+use Rattle.rw_laws.specs.Laws.{sequent_over}
 use Rattle.rw_laws.specs.declared.step.BasicStep.TheVariants as basic
 use Rattle.rw_tree.specs.declared.edit.Edit.{Edit}
 use Rattle.rw_tree.specs.declared.edit.Step.{Step}
@@ -30,10 +29,12 @@ use Rattle.rw_tree.specs.declared.edit.Place.{Place}
 use Rattle.rw_tree.specs.declared.status.Status.{Status}
 use Rattle.rw_tree.specs.declared.status.Status.TheVariants as status
 use Rattle.rw_tree.specs.Edits.{globals_of, root_of, step_at, cert_at}
-use Rattle.rw_tree.specs.Anew.{main_context, needs_for, needs_at, status_at, held_up, state_of, state_by, pending_from, root_place, root_status, anew, IsClosed}
+use Rattle.rw_tree.specs.Anew.{main_context, needs_for, needs_at, status_at, held_up, state_of, state_by, root_place, root_status, anew, IsClosed}
 use Rattle.rw_project.specs.Texts.{is_good, closed_text, closing_text, place_text, status_text}
 use Rattle.rw_project.specs.Session.{history_of, reply, reply_by}
-use Rattle.rw_project.specs.Headline.{heads, table, scope_of, code_by, code_of, CodeRefinesRoot, ShowsClosed, ClosedIsRefined}
+use Rattle.rw_reader.specs.Reading.{reading, reads}
+use Rattle.rw_reader.specs.declared.request.Request.TheVariants as request
+use Rattle.rw_project.specs.Headline.{heads, table, scope_of, code_by, CodeRefinesRoot, StatusIsAnew, Headline}
 
 -- a verdict that makes an obligation good is good
 good_verdict : (v : Verdict) → state_by v ≡ need.Good → v ≡ verdicts.Good
@@ -83,12 +84,12 @@ implied scope w refines f s fits wp = let better = refines s fits wp.0 in (bette
 pub closed_refined : (l : List Edit) → IsClosed l → CodeRefinesRoot l
 unfolding main_context
 closed_refined l e =
-    let c = closed_at (main_context (globals_of l)) (root_of l) (step_at l []) (cert_at l []) e in
+    let c = closed_at (main_context (globals_of l)) (root_of l) (step_at l []) (cert_at l []) e.0 in
     let refines = skip_refines (scope_of l) c.root c.valid in record {
       root = c.root;
       is_root = c.is_root;
       program = prog.Skip;
-      is_code = ap code_by c.is_skip;
+      is_code = λ i. code_by (main_context (globals_of l)) (c.is_root i) (c.is_skip i);
       refines = refines;
       preconditions = implied (scope_of l) c.root refines;
     }
@@ -104,17 +105,24 @@ good_told place (status.Misfit m) e = absurd (fourth_differs _ e)
 good_told place (status.Pending k state) e = absurd (fourth_differs _ e)
 good_told place status.Good e = refl
 
-pub closed_exactly : (l : List Edit) → (IsClosed l → closing_text (anew l).nodes ≡ closed_text) × (closing_text (anew l).nodes ≡ closed_text → IsClosed l)
+pub closed_exactly : (l : List Edit) → closing_text (anew l).nodes ≡ closed_text ↔ IsClosed l
 closed_exactly l = (
-  λ e. ap (λ s. if is_good s then closed_text else codes "ok not closed " ++ place_text root_place ++ codes " " ++ status_text s) e,
-  λ e. good_told root_place (root_status l) e,
+  λ e. (good_told root_place (root_status l) e, tt),
+  λ e. ap (λ s. if is_good s then closed_text else codes "ok not closed " ++ place_text root_place ++ codes " " ++ status_text s) e.0,
 )
 
--- what the reply to a request for the status shows
-pub shown_refined : (l : List Edit) (line : List ℕ) → ShowsClosed l line → CodeRefinesRoot l
+-- what the reply to a request for the status is
+status_told : (l : List Edit) (line : List ℕ) → reading line ≡ reads request.Status → (reply l line).end ≡ closing_text (anew l).nodes
 unfolding reply
-shown_refined l line shows = closed_refined l ((closed_exactly l).1 (sym (ap (λ r. (reply_by l r).end) shows.asks) ∙ shows.shows))
+status_told l line asks = ap (λ r. (reply_by l r).end) asks
+
+pub status_anew : (l : List Edit) (line : List ℕ) → StatusIsAnew l line
+status_anew l line = record {
+  status = status_told l line;
+  exactly = λ asks. (λ e. (closed_exactly l).0 (sym (status_told l line asks) ∙ e), λ closed. status_told l line asks ∙ (closed_exactly l).1 closed);
+  refined = λ shows. closed_refined l ((closed_exactly l).0 (sym (status_told l line shows.asks) ∙ shows.shows));
+}
 
 -- the headline, for any session
-pub session_refined : (lines : List (List ℕ)) → ClosedIsRefined lines
-session_refined lines before line behind split shows = shown_refined (history_of before) line shows
+pub headline : (lines : List (List ℕ)) → Headline lines
+headline lines before line behind split = status_anew (history_of before) line

@@ -1,5 +1,5 @@
 -- What it means that a project is shown closed.
-use Rattle.std.specs.Prelude.{◌≡◌, ℕ, true, false, List, [], ◌∷◌, ◌++◌, map, Option, Some, None}
+use Rattle.std.specs.Prelude.{◌≡◌, ℕ, true, false, List, [], ◌∷◌, ◌++◌, ◌↔◌, map, Option, Some, None}
 use Rattle.rw_terms.specs.declared.scope.Entry.{Entry}
 use Rattle.rw_terms.specs.declared.term.Formula.{Formula}
 use Rattle.rw_programs.specs.declared.prog.Spec.{Spec}
@@ -8,15 +8,14 @@ use Rattle.rw_programs.specs.declared.prog.Prog.TheVariants as prog
 use Rattle.rw_programs.specs.State.{State, Fits, Holds}
 use Rattle.rw_programs.specs.Tables.{Table}
 use Rattle.rw_programs.specs.Refine.{Wp, Refines}
-use Rattle.rw_laws.specs.declared.step.BasicStep.TheVariants as basic
+use Rattle.rw_programs.specs.declared.applied.Context.{Context}
 use Rattle.rw_tree.specs.declared.edit.Edit.{Edit}
 use Rattle.rw_tree.specs.declared.edit.Step.{Step}
-use Rattle.rw_tree.specs.declared.edit.Step.TheVariants as step
 use Rattle.rw_tree.specs.Edits.{globals_of, root_of, step_at}
-use Rattle.rw_tree.specs.Anew.{global}
+use Rattle.rw_tree.specs.Anew.{global, main_context, applied, anew, IsClosed}
 use Rattle.rw_reader.specs.declared.request.Request.TheVariants as request
 use Rattle.rw_reader.specs.Reading.{reads, reading}
-use Rattle.rw_project.specs.Texts.{closed_text}
+use Rattle.rw_project.specs.Texts.{closed_text, closing_text}
 use Rattle.rw_project.specs.Session.{History, history_of, reply}
 
 -- what the specifications are read by: no procedures, modules and definitions are there yet
@@ -31,14 +30,15 @@ table = record { library = []; is_concrete = true; procs = []; modules = [] }
 abbrev pub scope_of : List Edit → List Entry
 scope_of l = map global (globals_of l)
 
--- the program of a node's step, whose kids are none yet
-abbrev pub code_by : Option Step → Option Prog
-code_by None = None
-code_by (Some (step.Basic basic.Skip)) = Some prog.Skip
+-- the skeleton that the law of a node's step gives, whose kids are none yet
+abbrev pub code_by : Context → Option Spec → Option Step → Option Prog
+code_by context None s = None
+code_by context (Some w) None = None
+code_by context (Some w) (Some s) = Some (applied context w s).skeleton
 
 -- the collected program
 abbrev pub code_of : List Edit → Option Prog
-code_of l = code_by (step_at l [])
+code_of l = code_by (main_context (globals_of l)) (root_of l) (step_at l [])
 
 -- the collected program refines the root: for every formula the root's weakest precondition implies the program's
 pub record CodeRefinesRoot (l : List Edit) : Type 0 where
@@ -47,14 +47,21 @@ pub record CodeRefinesRoot (l : List Edit) : Type 0 where
   pub program : Prog
   pub is_code : code_of l ≡ Some program
   pub refines : Refines (scope_of l) (prog.Spec root) heads program table
-  pub preconditions : (f : Formula) (s : State) → Fits (scope_of l) s → Wp heads (prog.Spec root) (λ t. Holds [] f t t) s → Wp table program (λ t. Holds [] f t t) s
+  pub preconditions : (f : Formula) (s : State) → Fits (scope_of l) s → Wp heads (prog.Spec root) (λ t. Holds heads.library f t t) s → Wp table program (λ t. Holds heads.library f t t) s
 
 -- a line asks for the status, and the reply shows the project closed
 pub record ShowsClosed (l : History) (line : List ℕ) : Type 0 where
   pub asks : reading line ≡ reads request.Status
   pub shows : (reply l line).end ≡ closed_text
 
--- wherever a line of a session gets a reply that shows the project closed, the collected program refines the root
-abbrev pub ClosedIsRefined : List (List ℕ) → Type 0
-ClosedIsRefined lines =
-    (before : List (List ℕ)) (line : List ℕ) (behind : List (List ℕ)) → lines ≡ before ++ line ∷ behind → ShowsClosed (history_of before) line → CodeRefinesRoot (history_of before)
+-- What is shown for a line after a history: a status is that of checking the live edits anew, the project is shown closed exactly
+-- where it is, and then the collected program refines the root.
+pub record StatusIsAnew (l : History) (line : List ℕ) : Type 0 where
+  pub status : reading line ≡ reads request.Status → (reply l line).end ≡ closing_text (anew l).nodes
+  pub exactly : reading line ≡ reads request.Status → (reply l line).end ≡ closed_text ↔ IsClosed l
+  pub refined : ShowsClosed l line → CodeRefinesRoot l
+
+-- the headline of a session: of each of its lines
+abbrev pub Headline : List (List ℕ) → Type 0
+Headline lines =
+    (before : List (List ℕ)) (line : List ℕ) (behind : List (List ℕ)) → lines ≡ before ++ line ∷ behind → StatusIsAnew (history_of before) line

@@ -1,5 +1,5 @@
 -- The texts of replies.
-use Rattle.std.specs.Prelude.{ℕ, zero, suc, Bool, true, false, if◌then◌else◌, nat_eq, List, [], ◌∷◌, ◌++◌, codes, decimal}
+use Rattle.std.specs.Prelude.{ℕ, Bool, true, false, if◌then◌else◌, nat_eq, List, [], ◌∷◌, ◌++◌, codes, decimal}
 use Rattle.rw_programs.specs.declared.applied.Misfit.{Misfit}
 use Rattle.rw_programs.specs.declared.applied.Misfit.TheVariants as misfit
 use Rattle.rw_tree.specs.declared.edit.TreeName.{TreeName}

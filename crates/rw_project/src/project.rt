@@ -7,8 +7,8 @@ ghost use Rattle.rw_tree.specs.Refusals.{refusal_of, IsGood};
 ghost use Rattle.rw_tree.specs.Anew.{anew};
 ghost use Rattle.rw_tree.specs.Parts.{Makes};
 ghost use Rattle.rw_project.specs.Texts.{closing_text, syntax_text, refusal_text};
-ghost use Rattle.rw_project.specs.Session.{is_silent, reply, reply_to, edited, no_history};
-ghost use Rattle.rw_project.specs.Headline.{ShowsClosed, CodeRefinesRoot};
+ghost use Rattle.rw_project.specs.Session.{reply, reply_to, edited, no_history};
+ghost use Rattle.rw_project.specs.Headline.{StatusIsAnew};
 ghost use Rattle.rw_project.specs.declared.project.ProjectError.TheVariants.{Memory};
 
 use crate::texts::{accepted_text, closing_text, refusal_text, syntax_text};
@@ -94,8 +94,9 @@ impl Project {
         }
     }
 
-    /// Answers a line that is no comment and not blank, of at most 65,536 bytes and without LF. A refused request leaves the
-    /// project as it was, and so does want of memory. One step is counted for each line of a certificate that is checked.
+    /// Answers a line of at most 65,536 bytes and without LF. A refused request leaves the project as it was, and so does want of
+    /// memory. Lines that are blank or begin with `#` get no reply in a session, and are no requests here. The counter is handed on
+    /// to the checks of certificates.
     #[tactic(auto, unfolding(crate::specs::Session::reply))]
     pub fn answer<L: Ledger>(
         &mut self,
@@ -104,14 +105,13 @@ impl Project {
     ) -> Result<Reply, ProjectError>
         requires short { length line.now ≤ 65536 }
         requires one_line { Contains line.now 10 → ⊥ }
-        requires spoken { is_silent line.now ≡ false }
         ensures lines { IfOk result (λ r. r.lines ≡ (reply self.old line.now).lines) }
         ensures end { IfOk result (λ r. r.end ≡ (reply self.old line.now).end) }
         ensures refused { IfOk result (λ r. r.refused ≡ (reply self.old line.now).refused) }
         ensures after { OnOk result (self.new ≡ (reply self.old line.now).after) }
         ensures same { IfOk result (λ r. r.refused ≡ true → self.new ≡ self.old) }
         ensures err { OnErr result (self.new ≡ self.old) }
-        ensures closed { ShowsClosed self.old line.now → CodeRefinesRoot self.old }
+        ensures headline { StatusIsAnew self.old line.now }
     {
         match read_request(self.alloc, line) {
             Ok(Request::Edit(edit)) => self.take(edit),

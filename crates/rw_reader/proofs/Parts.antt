@@ -2,12 +2,13 @@
 use Rattle.std.proofs.Common.{◌≡◌, ℕ, ◌<◌, ◌≤◌, arith, length-drop, Bool, true, false, cond, List, [], ◌∷◌, length, drop, Some, None, IsTrue, refl, sym, ap, ◌∙◌, subst}
 use Rattle.std.specs.Prelude.{◌&&◌}
 use Rattle.rw_terms.specs.Names.{is_name}
+use Rattle.rw_terms.specs.declared.term.Term.TheVariants as terms
 use Rattle.std.proofs.lemmas.List.{drop_all}
 use Rattle.rw_reader.specs.declared.request.Request.{Request}
 use Rattle.rw_reader.specs.declared.request.ReadError.{ReadError}
 use Rattle.rw_reader.specs.declared.request.ReadError.TheVariants.{Syntax}
 use Rattle.rw_reader.specs.Tokens.{Token, token_at}
-use Rattle.rw_reader.specs.Forms.{Slot, Filled, filled, is_text, is_lower, is_variable, Form, gives, takes, either}
+use Rattle.rw_reader.specs.Forms.{Slot, Filled, filled, is_text, is_lower, is_variable, named_operand, Form, gives, takes, either}
 use Rattle.rw_reader.specs.Reading.{Ending, whole, stops, at_end, fitted, slot_read, choice_read, read_form}
 use Rattle.rw_reader.specs.Progress.{IsPlace, StopsAt}
 
@@ -52,6 +53,17 @@ unfolding is_variable
 no_variable w n = go (is_name w) n
   where
     go : (b : Bool) → ¬ (IsTrue b) → cond (b && is_lower w) (Some w) None ≡ None
+    go true h = absurd (h refl)
+    go false h = refl
+
+-- what a name is as an operand
+pub operand_is : (w : List ℕ) → IsTrue (is_name w) → (b : Bool) → is_lower w ≡ b → named_operand w ≡ Some (cond b (terms.Var w) (terms.Const w))
+operand_is w n b e = ap (λ x. cond x (Some (cond (is_lower w) (terms.Var w) (terms.Const w))) None) n ∙ ap (λ x. Some (cond x (terms.Var w) (terms.Const w))) e
+
+pub no_operand : (w : List ℕ) → ¬ (IsTrue (is_name w)) → named_operand w ≡ None
+no_operand w n = go (is_name w) n
+  where
+    go : (b : Bool) → ¬ (IsTrue b) → cond b (Some (cond (is_lower w) (terms.Var w) (terms.Const w))) None ≡ None
     go true h = absurd (h refl)
     go false h = refl
 

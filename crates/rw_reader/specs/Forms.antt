@@ -1,5 +1,5 @@
 -- The grammar of requests: a request is of a form, which says what stands where. A new request is a new form.
-use Rattle.std.specs.Prelude.{◌≡◌, ℕ, Bool, false, ◌&&◌, cond, leb, List, [], ◌∷◌, Option, Some, None, option_map, codes, bytes_eq, ◌⊎◌, pos}
+use Rattle.std.specs.Prelude.{◌≡◌, ℕ, Bool, false, ◌&&◌, cond, leb, List, [], ◌∷◌, Option, Some, None, codes, bytes_eq, ◌⊎◌, pos}
 use Rattle.rw_terms.specs.Names.{is_name}
 use Rattle.rw_terms.specs.declared.term.Sort.TheVariants as sorts
 use Rattle.rw_terms.specs.declared.term.Term.{Term}
@@ -24,7 +24,7 @@ pub data Slot : Type 0 where
   a_variable : Slot
   -- a number that is at most this
   a_number : ℕ → Slot
-  -- a number or a variable
+  -- a number or a name
   an_operand : Slot
 
 -- what a slot's token says
@@ -58,8 +58,12 @@ number_within most (text w) = None
 number_within most (number n) = cond (leb n most) (Some n) None
 number_within most (binder n) = None
 
+-- a variable begins with a lower-case letter, a constant with an upper-case one
+abbrev pub named_operand : List ℕ → Option Term
+named_operand w = cond (is_name w) (Some (cond (is_lower w) (terms.Var w) (terms.Const w))) None
+
 abbrev pub operand_of : Token → Option Term
-operand_of (text w) = option_map terms.Var (variable_of (text w))
+operand_of (text w) = named_operand w
 operand_of (number n) = cond (leb n 170141183460469231731687303715884105727) (Some (terms.Lit (pos n))) None
 operand_of (binder n) = None
 

@@ -1,7 +1,7 @@
 //! The parts of requests, read from a place on.
 
 ghost use Rattle.std.specs.Prelude.{◌≡◌, ℕ, ◌≤◌, length};
-ghost use Rattle.rw_reader.specs.Forms.{is_text, is_lower, variable_of, number_within, operand_of, takes, exactly, a_variable, a_number, an_operand, atom};
+ghost use Rattle.rw_reader.specs.Forms.{is_text, is_lower, variable_of, number_within, named_operand, operand_of, takes, exactly, a_variable, a_number, an_operand, atom};
 ghost use Rattle.rw_reader.specs.Seen.{seen};
 ghost use Rattle.rw_reader.specs.Progress.{IsPlace, Took, Chose, Ended};
 ghost use Rattle.rw_reader.specs.declared.request.ReadError.TheVariants as read_error;
@@ -190,10 +190,23 @@ fn operand_of(token: Token) -> Option<Term>
             }
             Some(Term::Lit(n as i128))
         }
-        Token::Text(_) => {
-            let name = variable_of(token)?;
-            Some(Term::Var(name))
-        }
+        Token::Text(text) => named_operand(text),
         Token::Binder(_) => None,
+    }
+}
+
+// A variable begins with a lower-case letter, a constant with an upper-case one.
+fn named_operand(text: &[u8]) -> Option<Term>
+    ensures { result ≡ named_operand text.now }
+{
+    match Name::read(text) {
+        Ok(name) => {
+            if is_lower(text) {
+                Some(Term::Var(name))
+            } else {
+                Some(Term::Const(name))
+            }
+        }
+        Err(_) => None,
     }
 }

@@ -1,5 +1,5 @@
 -- Each line is sound: where its premises are valid, so is the goal.
-use Rattle.std.proofs.Common.{◌≡◌, ℕ, ◌||◌, Bool, true, false, List, [], ◌∷◌, refl, sym, subst, true≢false}
+use Rattle.std.proofs.Common.{◌≡◌, ◌||◌, Bool, true, false, List, [], ◌∷◌, refl, sym, subst, true≢false}
 use Rattle.std.specs.List.{list_any}
 use Rattle.rw_terms.specs.declared.sequent.Sequent.{Sequent}
 use Rattle.rw_terms.specs.Truth.{Definition, holds}

@@ -12,7 +12,7 @@ use Rattle.rw_sequents.specs.declared.line.Verdict.{Verdict}
 use Rattle.rw_sequents.specs.declared.line.Verdict.TheVariants.{Good, Bad}
 use Rattle.rw_terms.specs.Validity.{Each, Valid}
 use Rattle.rw_sequents.specs.Rules.{after_line}
-use Rattle.rw_sequents.specs.After.{Progress, Open, Failed, within, replaced, step, after_lines, after, Follows, told, verdict, counted, checked}
+use Rattle.rw_sequents.specs.After.{Progress, Open, Failed, capped, replaced, step, after_lines, after, Follows, told, verdict, counted, checked}
 use Rattle.rw_sequents.proofs.Lines.{AllValid, line_sound}
 
 pub stays : (ls : List CertLine) (a b c n : ℕ) → after_lines (Failed a b c) ls n ≡ Failed a b c
@@ -28,7 +28,7 @@ none_left gs e = cc
 module _ (library : List Definition) where
   within_sound : (b : Bool) (gs : List Sequent) (ls : List CertLine) (n m : ℕ) →
       ((gs : List Sequent) → after_lines (Open gs) ls m ≡ Open [] → Each (Valid library) gs) →
-      after_lines (within b gs n) ls m ≡ Open [] → Each (Valid library) gs
+      after_lines (capped b gs n) ls m ≡ Open [] → Each (Valid library) gs
   within_sound true gs ls n m ih e = absurd (not_open ls n 0 7 m e)
   within_sound false gs ls n m ih e = ih gs e
 

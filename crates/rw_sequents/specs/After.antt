@@ -15,16 +15,16 @@ pub data Progress : Type 0 where
   Open : List Sequent → Progress
   Failed : ℕ → ℕ → ℕ → Progress
 
--- at most 64 goals
-abbrev pub within : Bool → List Sequent → ℕ → Progress
-within true goals n = Failed n 0 7
-within false goals n = Open goals
+-- the goals, unless they are more than 64
+abbrev pub capped : Bool → List Sequent → ℕ → Progress
+capped true goals n = Failed n 0 7
+capped false goals n = Open goals
 
 abbrev pub replaced : Effect → List Sequent → ℕ → Progress
 replaced (Fails sub cause) rest n = Failed n sub cause
 replaced Closes rest n = Open rest
 replaced (One p) rest n = Open (p ∷ rest)
-replaced (Two p r) rest n = within (ltb 64 (length rest + 2)) (p ∷ r ∷ rest) n
+replaced (Two p r) rest n = capped (ltb 64 (length rest + 2)) (p ∷ r ∷ rest) n
 
 -- the line of number n
 abbrev pub step : Progress → CertLine → ℕ → Progress

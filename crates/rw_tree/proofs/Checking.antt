@@ -1,6 +1,6 @@
 -- Checking the parts tells what the definitions tell of the list of edits that makes them.
-use Rattle.std.proofs.Common.{◌≡◌, ℕ, ◌≤◌, Bool, true, false, if◌then◌else◌, nat_le, nat_lt, nat_eq, List, [], ◌∷◌, length, refl, sym, ap, ◌∙◌, subst, arith, Option, Some, None, unwrap_or, inl, inr}
-use Rattle.std.proofs.lemmas.Bool.Decides.{leb_tells, eqb_tells}
+use Rattle.std.proofs.Common.{◌≡◌, ℕ, ◌≤◌, Bool, true, false, if◌then◌else◌, nat_lt, nat_eq, List, [], ◌∷◌, length, sym, ◌∙◌, subst, arith, Option, Some, None, unwrap_or, inl, inr}
+use Rattle.std.proofs.lemmas.Bool.Decides.{leb_tells}
 use Rattle.rw_programs.specs.declared.prog.Spec.{Spec}
 use Rattle.rw_programs.specs.declared.applied.Context.{Context}
 use Rattle.rw_sequents.specs.declared.line.Cert.{Cert}
@@ -14,7 +14,7 @@ use Rattle.rw_tree.specs.declared.refusal.EditRefusal.TheVariants as refusal
 use Rattle.rw_tree.specs.declared.refusal.Which.TheVariants as which
 use Rattle.rw_tree.specs.declared.parts.Parts.{Parts}
 use Rattle.rw_tree.specs.Edits.{cert_at, cert_set, cert_dropped, behind, is_node, obligations_of}
-use Rattle.rw_tree.specs.Refusals.{at_node, has_obligation, too_long, IsGood}
+use Rattle.rw_tree.specs.Refusals.{has_obligation, too_long, IsGood}
 use Rattle.rw_tree.specs.Anew.{main_context, needs_at, needs_for, status_at, root_needs, root_mark, root_place}
 use Rattle.rw_tree.specs.Parts.{Makes, HasFewLines, numbered, needs_in, mark_in}
 

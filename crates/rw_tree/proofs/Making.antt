@@ -1,5 +1,5 @@
 -- What an edit does to the project that a list of edits makes.
-use Rattle.std.proofs.Common.{◌≡◌, ℕ, zero, suc, ◌<◌, ◌≤◌, Bool, true, false, ◌&&◌, if◌then◌else◌, nat_le, nat_lt, nat_eq, List, [], ◌∷◌, ◌++◌, length, refl, sym, ap, ◌∙◌, arith, Option, Some, None, unwrap_or, inl, inr}
+use Rattle.std.proofs.Common.{◌≡◌, ℕ, zero, suc, ◌≤◌, Bool, true, false, ◌&&◌, if◌then◌else◌, nat_le, nat_lt, nat_eq, List, [], ◌∷◌, ◌++◌, length, refl, sym, ap, ◌∙◌, arith, Option, Some, None, unwrap_or, inl, inr}
 use Rattle.std.proofs.lemmas.Bool.Decides.{leb_tells, eqb_tells}
 use Rattle.std.proofs.lemmas.List.{length-set}
 use Rattle.rw_laws.specs.declared.step.BasicStep.TheVariants as basic
@@ -12,10 +12,10 @@ use Rattle.rw_tree.specs.declared.edit.Edit.TheVariants as edit
 use Rattle.rw_tree.specs.declared.refusal.EditRefusal.{EditRefusal}
 use Rattle.rw_tree.specs.declared.refusal.EditRefusal.TheVariants as refusal
 use Rattle.rw_tree.specs.declared.parts.Parts.{Parts}
-use Rattle.rw_tree.specs.Edits.{globals_of, root_of, step_at, step_set, cert_at, cert_dropped, cert_set, behind, obligations_of, obligations_in, has_kid, is_node}
-use Rattle.rw_tree.specs.Refusals.{is_param, spec_unknown, unknown, at_node, has_obligation, too_long, refusal_of}
+use Rattle.rw_tree.specs.Edits.{step_at, step_set, cert_at, cert_dropped, cert_set, behind, obligations_of, obligations_in, has_kid, is_node}
+use Rattle.rw_tree.specs.Refusals.{is_param, spec_unknown, unknown, too_long, refusal_of}
 use Rattle.rw_tree.specs.Parts.{Makes, numbered, resized, put_numbered, applied_to, no_node_at, no_node, no_obligation, or_refusal, refusal_in}
-use Rattle.rw_tree.proofs.Sizes.{held, held_sized, length_sized, held_set}
+use Rattle.rw_tree.proofs.Sizes.{held_sized, length_sized, held_set}
 
 -- no step has a kid
 no_kid_above : (n k : ℕ) → n ≡ 0 → (nat_le 1 k && nat_le k n) ≡ false

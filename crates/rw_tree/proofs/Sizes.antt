@@ -1,5 +1,5 @@
 -- Lists of certificates that are cut or filled up.
-use Rattle.std.proofs.Common.{◌≡◌, ℕ, zero, suc, ◌<◌, ◌≤◌, ◌+◌, ◌-◌, if◌then◌else◌, nat_lt, nat_eq, List, [], ◌∷◌, ◌++◌, length, length-append, take, replicate, refl, sym, ap, ◌∙◌, arith, Option, Some, None, inl, inr, slice_set, MatchOption}
+use Rattle.std.proofs.Common.{◌≡◌, ℕ, zero, suc, ◌<◌, ◌≤◌, ◌-◌, if◌then◌else◌, nat_lt, nat_eq, List, [], ◌∷◌, ◌++◌, length, length-append, take, replicate, refl, sym, ap, ◌∙◌, arith, Option, Some, None, inl, inr, slice_set, MatchOption}
 use Rattle.std.specs.List.{slice_get}
 use Rattle.std.specs.Option.{option_and_then}
 use Rattle.std.proofs.lemmas.List.{length-replicate}

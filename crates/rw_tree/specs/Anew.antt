@@ -3,9 +3,9 @@ use Rattle.std.specs.Prelude.{◌≡◌, ℕ, ◌+◌, List, [], ◌∷◌, map,
 use Rattle.rw_terms.specs.declared.scope.Entry.{Entry}
 use Rattle.rw_terms.specs.declared.scope.Kind.TheVariants as kind
 use Rattle.rw_terms.specs.declared.sequent.Sequent.{Sequent}
+use Rattle.rw_terms.specs.Validity.{Each}
 use Rattle.rw_programs.specs.declared.prog.Param.{Param}
 use Rattle.rw_programs.specs.declared.prog.Spec.{Spec}
-use Rattle.rw_programs.specs.declared.prog.Prog.{Prog}
 use Rattle.rw_programs.specs.declared.applied.Context.{Context}
 use Rattle.rw_programs.specs.declared.applied.Applied.{Applied}
 use Rattle.rw_sequents.specs.declared.line.Cert.{Cert}
@@ -103,4 +103,4 @@ anew l = record { nodes = root_mark l ∷ [] }
 
 -- the derivation is closed: each node is good
 abbrev pub IsClosed : List Edit → Type 0
-IsClosed l = root_status l ≡ status.Good
+IsClosed l = Each (λ mark. mark.status ≡ status.Good) (anew l).nodes

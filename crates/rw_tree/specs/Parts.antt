@@ -1,5 +1,5 @@
 -- When a project is the one that a list of edits makes, and what an edit does to it.
-use Rattle.std.specs.Prelude.{◌≡◌, ℕ, zero, suc, ◌-◌, ◌≤◌, ◌++◌, ◌∷◌, [], Bool, ◌&&◌, if◌then◌else◌, nat_le, List, length, take, replicate, Option, Some, None, slice_get, slice_set}
+use Rattle.std.specs.Prelude.{◌≡◌, ℕ, zero, suc, ◌-◌, ◌≤◌, ◌++◌, ◌∷◌, [], ◌&&◌, if◌then◌else◌, nat_le, List, length, take, replicate, Option, Some, None, slice_get, slice_set}
 use Rattle.std.specs.Option.{option_and_then}
 use Rattle.rw_sequents.specs.declared.line.Cert.{Cert}
 use Rattle.rw_tree.specs.declared.edit.Place.{Place}

@@ -23,8 +23,8 @@ use rw_terms::sequent::Sequent;
 use std::alloc::{AllocError, Global};
 use std::sync::ledger::Ledger;
 
-/// The status of each node, its specification, and its obligations with their states, from the roots downwards. One step is
-/// counted for each line of a certificate that is checked.
+/// The status of each node, its specification, and its obligations with their states, from the roots downwards. The counter is
+/// handed on to the checks of certificates.
 pub fn check_anew<L: Ledger>(
     alloc: Global,
     parts: &Parts,

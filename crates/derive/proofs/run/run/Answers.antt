@@ -1,4 +1,4 @@
-use Rattle.std.proofs.Common.{◌≡◌, [], refl, sym, ap, arith, Err}
+use Rattle.std.proofs.Common.{◌≡◌, [], refl, sym, ap, arith, rules, inl, inr, Err}
 use Rattle.std.proofs.KnownBytes.{Consumes-nil, Consumes-trans}
 use Rattle.std.proofs.lemmas.List.{append-nil}
 use Rattle.std.proofs.lemmas.Result.{err_from_is_err_and}
@@ -18,7 +18,7 @@ pub returns-in_err-flush-clause-write : goal.returns-in_err-flush-clause-write
 returns-in_err-flush-clause-write g c = λ is.
     let inv = c.reads.invariant.stands in
     let cut = c.in_err-flush.ensures.err in
-    (inv.0, inv.1, part_at _ _ _ _ _ inv.0 _ _ _ cut.0 _ [] _ (sym (append-nil inv.0)) inv.2 refl cut.1)
+    inl (inv.0, inv.1, part_at _ _ _ _ _ inv.0 _ _ _ cut.0 _ [] _ (sym (append-nil inv.0)) inv.2 refl cut.1)
 
 pub returns-in-Err-clause-read : goal.returns-in-Err-clause-read
 returns-in-Err-clause-read g c = λ is.
@@ -41,7 +41,7 @@ returns-in_err-feed-clause-write g c = λ is.
     let e : c.in_err-feed.field-0.0 ≡ WriteFault = cc (p.1, p.2, is) in
     let inv = c.reads.invariant.stands in
     let stands = c.in_ok-flush.ensures.stands _ inv.0 inv.2 in
-    (_, Consumes-trans _ _ _ _ _ inv.1 c.in-Ok.ensures.bytes.0, c.in_err-feed.ensures.part _ inv.0 stands (ap Err e))
+    inl (_, Consumes-trans _ _ _ _ _ inv.1 c.in-Ok.ensures.bytes.0, c.in_err-feed.ensures.part _ inv.0 stands (ap Err e))
 
 pub returns-in_err-feed-clause-memory : goal.returns-in_err-feed-clause-memory
 returns-in_err-feed-clause-memory g c = λ is.
@@ -65,7 +65,10 @@ returns-in_err-finish-clause-write g c = λ is.
     let e : c.in_err-finish.field-0.0 ≡ WriteFault = cc (p.1, p.2, is) in
     let inv = c.reads.invariant.stands in
     let stands = c.in_ok-flush.ensures.stands _ inv.0 inv.2 in
-    (inv.0, consumes_none _ _ _ inv.0 _ _ inv.1 c.in-Ok.ensures.bytes.0 c.if-count-eq0.true, c.in_err-finish.ensures.part _ inv.0 stands (ap Err e))
+    inr (
+      c.in-Ok.ensures.bytes.1 c.if-count-eq0.true (search rules),
+      (inv.0, consumes_none _ _ _ inv.0 _ _ inv.1 c.in-Ok.ensures.bytes.0 c.if-count-eq0.true, c.in_err-finish.ensures.part _ inv.0 stands (ap Err e)),
+    )
 
 pub returns-in_err-finish-clause-memory : goal.returns-in_err-finish-clause-memory
 returns-in_err-finish-clause-memory g c = λ is.

@@ -1,4 +1,4 @@
-use Rattle.std.proofs.Common.{arith, ap, length, sym, ◌∙◌}
+use Rattle.std.proofs.Common.{arith, ap, length}
 use Rattle.rw_tree.proofs.Checking.{few_needs}
 use Rattle.rw_tree.proofs.anew.root_mark.Goals as goal
 

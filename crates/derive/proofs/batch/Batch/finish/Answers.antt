@@ -4,13 +4,13 @@ use Rattle.rw_project.specs.Lines.{lines_of}
 use Rattle.rw_project.specs.Session.{session}
 use Rattle.derive.specs.declared.batch.Batch.{Batch}
 use Rattle.derive.specs.Batch.{Adds, AnswersAll}
-use Rattle.derive.proofs.Ends.{first_of, part_at, sends, cuts}
+use Rattle.derive.proofs.Ends.{first_of, part_at, part_of_all, sends, cuts}
 use Rattle.derive.proofs.batch.Batch.finish.Goals as goal
 
 pub returns-in_err-flush-clause-part : goal.returns-in_err-flush-clause-part
 returns-in_err-flush-clause-part g c = λ start seen s is.
     let cut = c.in_err-flush.ensures.err in
-    part_at start _ _ _ _ seen _ _ _ cut.0 _ [] _ (sym (append-nil seen)) s c.in-Err.ensures.pending cut.1
+    part_of_all start _ seen (part_at start _ _ _ _ seen _ _ _ cut.0 _ [] _ (sym (append-nil seen)) s c.in-Err.ensures.pending cut.1)
 
 pub returns-in-Err-clause-memory : goal.returns-in-Err-clause-memory
 returns-in-Err-clause-memory g c = λ start seen s is.
