@@ -1,0 +1,6 @@
+pub mod Slots
+pub mod Leaves
+pub mod Replaced
+pub mod Rules
+pub mod Limits
+pub mod Closed
