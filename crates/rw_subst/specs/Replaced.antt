@@ -1,7 +1,7 @@
 -- What replacement, opening and closing give.
-use Rattle.std.specs.Prelude.{ℕ, if◌then◌else◌, nat_eq, List, map}
+use Rattle.std.specs.Prelude.{ℕ, if◌then◌else◌, nat_eq, List}
 use Rattle.rw_terms.specs.declared.term.Term.{Term}
-use Rattle.rw_terms.specs.declared.term.Term.TheVariants.{Bound}
+use Rattle.rw_terms.specs.declared.term.Term.TheVariants.{Var, Init, Bound}
 use Rattle.rw_terms.specs.declared.term.Formula.{Formula}
 use Rattle.rw_subst.specs.declared.slot.Slot.{Slot}
 use Rattle.rw_subst.specs.declared.slot.Slot.TheVariants as slot
@@ -32,3 +32,10 @@ closed_leaves s = record { name = λ k form x. if is_slot form x s then Bound k 
 
 abbrev pub closed : Slot → Formula → Formula
 closed s f = rebuilt_formula (closed_leaves s) f 0
+
+-- the change of a variable to its initial variable, and back
+abbrev pub to_initial : List ℕ → Change
+to_initial x = record { slot = slot.Var x; term = Init x }
+
+abbrev pub from_initial : List ℕ → Change
+from_initial x = record { slot = slot.Init x; term = Var x }

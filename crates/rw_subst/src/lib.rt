@@ -3,6 +3,8 @@
 
 mod build;
 pub mod error;
+mod reckon;
+pub mod replace;
 mod rule;
 mod size;
 pub mod slot;

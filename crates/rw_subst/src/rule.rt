@@ -4,6 +4,7 @@ ghost use Rattle.std.specs.Prelude.{◌≡◌, IfOk, unwrap_or, option_copied};
 ghost use Rattle.rw_subst.specs.Slots.{plain, changed};
 ghost use Rattle.rw_subst.specs.Rules.{leaves_of};
 
+use crate::size::Size;
 use crate::slot::{Change, Form, Slot};
 use rw_terms::name::Name;
 use rw_terms::term::Term;
@@ -12,10 +13,10 @@ use std::alloc::{AllocError, Global};
 /// What is put for the names and the binders of a term.
 #[derive(Clone, Copy)]
 pub enum Rule<'a> {
-    /// The terms of changes for their slots.
-    Replace(&'a [Change]),
-    /// A term for the loose binder.
-    Open(&'a Term),
+    /// The terms of changes for their slots, and the size of each of them.
+    Replace(&'a [Change], &'a [Size]),
+    /// A term for the loose binder, and its size.
+    Open(&'a Term, Size),
     /// A loose binder for a slot.
     Close(&'a Slot),
 }
@@ -31,11 +32,11 @@ pub fn for_name(
     ensures { IfOk result (λ t. t ≡ (leaves_of rule.now).name under form name.now) }
 {
     match rule {
-        Rule::Replace(changes) => match find(changes, form, name) {
+        Rule::Replace(changes, _) => match find(changes, form, name) {
             Some(term) => term.copy(alloc),
             None => Ok(plain(form, name)),
         },
-        Rule::Open(_) => Ok(plain(form, name)),
+        Rule::Open(_, _) => Ok(plain(form, name)),
         Rule::Close(slot) => {
             if slot.is(form, name) {
                 Ok(Term::Bound(under))
@@ -51,7 +52,7 @@ pub fn for_binder(alloc: Global, rule: &Rule, under: u32, binder: u32) -> Result
     ensures { IfOk result (λ t. t ≡ (leaves_of rule.now).binder under binder) }
 {
     match rule {
-        Rule::Open(term) if binder == under => term.copy(alloc),
+        Rule::Open(term, _) if binder == under => term.copy(alloc),
         _ => Ok(Term::Bound(binder)),
     }
 }

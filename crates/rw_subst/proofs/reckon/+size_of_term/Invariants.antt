@@ -2,7 +2,7 @@ use Rattle.std.proofs.Common.{◌≡◌, ◌+◌, ◌≤◌, min, max, map, drop
 use Rattle.rw_terms.specs.Size.{terms_weight, terms_depth}
 use Rattle.rw_subst.specs.Leaves.{rebuilt_term}
 use Rattle.rw_subst.specs.Rules.{leaves_of}
-use Rattle.rw_subst.proofs.size.+size_of_term.Given as goal
+use Rattle.rw_subst.proofs.reckon.+size_of_term.Given as goal
 
 -- the size so far and the terms that are left
 abbrev pub invariant-size_of_terms-loop-term : goal.invariant-size_of_terms-loop-term
