@@ -5,3 +5,6 @@ pub mod Sizes
 pub mod Rules
 pub mod Limits
 pub mod Closed
+pub mod Stands
+pub mod Looks
+pub mod Laws

@@ -3,6 +3,7 @@
 
 mod build;
 pub mod error;
+pub mod laws;
 mod reckon;
 pub mod replace;
 mod rule;
