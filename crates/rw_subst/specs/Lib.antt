@@ -8,3 +8,5 @@ pub mod Closed
 pub mod Stands
 pub mod Looks
 pub mod Laws
+pub mod Conj
+pub mod Definedness

@@ -2,6 +2,9 @@
 #![tactic(auto)]
 
 mod build;
+mod conditions;
+mod counting;
+pub mod defined;
 pub mod error;
 pub mod laws;
 mod reckon;
