@@ -1,8 +1,9 @@
 -- Formulas joined by `and`.
-use Rattle.std.specs.Prelude.{ℕ, ◌+◌, min, max, List, [], ◌∷◌, Option, Some, None}
+use Rattle.std.specs.Prelude.{◌≡◌, ◌+◌, min, max, List, [], ◌∷◌, Option, Some, None}
+use Rattle.rw_terms.specs.declared.term.Term.{Term}
 use Rattle.rw_terms.specs.declared.term.Formula.{Formula}
 use Rattle.rw_terms.specs.declared.term.Formula.TheVariants.{True, And}
-use Rattle.rw_terms.specs.Size.{formula_weight, formula_depth}
+use Rattle.rw_terms.specs.Size.{term_weight, term_depth, formula_weight, formula_depth}
 use Rattle.rw_subst.specs.declared.size.Size.{Size}
 
 -- a formula and the others behind it, joined from the left
@@ -32,3 +33,7 @@ sizes_joined so_far (f ∷ fs) = sizes_joined (Some (size_and_also so_far (formu
 abbrev pub size_or_one : Option Size → Size
 size_or_one None = record { weight = 1; depth = 1 }
 size_or_one (Some size) = size
+
+-- the size of a term compared with a number
+abbrev pub IsCompared : Term → Size → Type 0
+IsCompared t size = (size.weight ≡ min (min (term_weight t) 4294967295 + 1 + 1) 4294967295) × (size.depth ≡ min (max (min (term_depth t) 4294967295) 1 + 1) 4294967295)

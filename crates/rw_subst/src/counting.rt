@@ -1,7 +1,7 @@
 //! The size of joined conditions, reckoned without building them.
 
 ghost use Rattle.std.specs.Prelude.{◌≡◌, ℕ, Some};
-ghost use Rattle.rw_subst.specs.Conj.{formula_size, size_and_also, sizes_joined};
+ghost use Rattle.rw_subst.specs.Conj.{formula_size, size_and_also, sizes_joined, IsCompared};
 ghost use Rattle.rw_subst.specs.Definedness.{nonzero, not_negative, below, in_range, conditions, conditions_of, guard_conditions};
 
 use crate::size::{ONE, Size, above, above_two, size_as_it_is};
@@ -98,6 +98,7 @@ fn size_of_nonzero(divisor: &Term) -> Size
 fn size_of_comparison(term: &Term) -> Size
     ensures not_negative { result ≡ formula_size (not_negative term.now) }
     ensures below { (n : ℕ) → result ≡ formula_size (below term.now n) }
+    ensures compared { IsCompared term.now result }
 {
     above_two(size_as_it_is(term), ONE)
 }
