@@ -18,6 +18,10 @@ pub sizes_append : (so_far : Option Size) (fs gs : List Formula) → sizes_joine
 sizes_append so_far [] gs = refl
 sizes_append so_far (f ∷ fs) gs = sizes_append (Some (size_and_also so_far (formula_size f))) fs gs
 
+-- the sizes of some formulas, and then of more
+pub sizes_both : (o0 o1 o2 : Option Size) (xs ys : List Formula) → o1 ≡ sizes_joined o0 xs → o2 ≡ sizes_joined o1 ys → o2 ≡ sizes_joined o0 (xs ++ ys)
+sizes_both o0 o1 o2 xs ys e e' = e' ∙ ap (λ o. sizes_joined o ys) e ∙ sym (sizes_append o0 xs ys)
+
 and_weight : (f g : Formula) → formula_weight (formula.And f g) ≡ formula_weight f + formula_weight g + 1
 and_weight f g = ap formula_weight (sym (formula.rolls-And f g)) ∙ fold-roll-Formula _ weight_step (Formula-F.And f g)
 

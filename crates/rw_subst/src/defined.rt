@@ -1,6 +1,7 @@
 //! Where a term and a guard are defined, as a formula.
 
-ghost use Rattle.std.specs.Prelude.{◌≡◌, IfOk, IfErr};
+ghost use Rattle.std.specs.Prelude.{◌≡◌, min, IfOk, IfErr};
+ghost use Rattle.rw_terms.specs.Size.{formula_weight, formula_depth};
 ghost use Rattle.rw_subst.specs.Conj.{size_or_one};
 ghost use Rattle.rw_subst.specs.Definedness.{definedness, guard_definedness};
 ghost use Rattle.rw_subst.specs.Limits.{IsSmallFormula, IsFormulaRefusal};
@@ -21,7 +22,7 @@ pub fn defined(alloc: Global, scope: &Scope, term: &Term) -> Result<Formula, Sub
     ensures small { IfOk result IsSmallFormula }
     ensures large { IfErr result (IsFormulaRefusal (definedness scope.now term.now)) }
 {
-    fit(size_or_one(count_term(scope, term, None)))?;
+    fit(size_of_definedness(scope, term))?;
     let mut found = Items::new(alloc);
     ask_term(alloc, scope, term, &mut found)?;
     Ok(join(alloc, found)?)
@@ -34,10 +35,24 @@ pub fn defined_guard(alloc: Global, scope: &Scope, guard: &Formula) -> Result<Fo
     ensures small { IfOk result IsSmallFormula }
     ensures large { IfErr result (IsFormulaRefusal (guard_definedness scope.now guard.now)) }
 {
-    fit(size_or_one(count_guard(scope, guard, None)))?;
+    fit(size_of_guard_definedness(scope, guard))?;
     let mut found = Items::new(alloc);
     ask_guard(alloc, scope, guard, &mut found)?;
     Ok(join(alloc, found)?)
+}
+
+fn size_of_definedness(scope: &Scope, term: &Term) -> Size
+    ensures weight { result.weight ≡ min (formula_weight (definedness scope.now term.now)) u32.MAX }
+    ensures depth { result.depth ≡ min (formula_depth (definedness scope.now term.now)) u32.MAX }
+{
+    size_or_one(count_term(scope, term, None))
+}
+
+fn size_of_guard_definedness(scope: &Scope, guard: &Formula) -> Size
+    ensures weight { result.weight ≡ min (formula_weight (guard_definedness scope.now guard.now)) u32.MAX }
+    ensures depth { result.depth ≡ min (formula_depth (guard_definedness scope.now guard.now)) u32.MAX }
+{
+    size_or_one(count_guard(scope, guard, None))
 }
 
 fn size_or_one(all: Option<Size>) -> Size
