@@ -11,7 +11,7 @@ use Rattle.rw_terms.specs.declared.scope.Entry.{Entry}
 use Rattle.rw_subst.specs.Definedness.{nonzero, in_range, appended, conditions_step, conditions, conditions_of}
 
 module _ (scope : List Entry) where
-  abbrev paired : Term → Term × List Formula
+  abbrev pub paired : Term → Term × List Formula
   paired t = (t, conditions scope t)
 
   pub asks_layer : (x : Term-F Term) → conditions scope (roll-Term x) ≡ conditions_step scope (map-Term Term (Term × List Formula) paired x)

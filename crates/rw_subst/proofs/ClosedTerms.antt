@@ -1,5 +1,5 @@
 -- The binders do not matter to a term that has none.
-use Rattle.std.proofs.Common.{◌≡◌, ℕ, Bool, true, false, ◌&&◌, List, [], map, slice_get, refl, sym, ap, ◌∙◌, subst, true≢false}
+use Rattle.std.proofs.Common.{◌≡◌, ℕ, Bool, true, false, ◌&&◌, List, [], slice_get, refl, sym, ap, ◌∙◌, subst, true≢false}
 use Rattle.rw_terms.specs.declared.term.Term.{Term}
 use Rattle.rw_terms.specs.declared.term.Term.TheVariants as v
 use Rattle.rw_terms.specs.declared.term.Term.TheOpen.{Term-F}

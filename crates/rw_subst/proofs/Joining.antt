@@ -1,5 +1,5 @@
 -- Joining formulas one after another, and their sizes.
-use Rattle.std.proofs.Common.{◌≡◌, ℕ, pos, ◌+◌, ◌≤◌, min, max, List, [], ◌∷◌, ◌++◌, Option, Some, None, refl, sym, ap, ◌∙◌, arith, rules}
+use Rattle.std.proofs.Common.{◌≡◌, ℕ, pos, ◌+◌, min, max, List, [], ◌∷◌, ◌++◌, Option, Some, None, refl, sym, ap, ◌∙◌, arith}
 use Rattle.rw_terms.specs.declared.term.Term.{Term}
 use Rattle.rw_terms.specs.declared.term.Term.TheVariants as v
 use Rattle.rw_terms.specs.declared.term.Term.TheOpen.{Term-F}
@@ -7,7 +7,6 @@ use Rattle.rw_terms.specs.declared.term.Term.TheFolds.{fold-roll-Term}
 use Rattle.rw_terms.specs.declared.term.Formula.{Formula}
 use Rattle.rw_terms.specs.declared.term.Formula.TheVariants as formula
 use Rattle.rw_terms.specs.declared.term.Formula.TheOpen.{Formula-F}
-use Rattle.rw_terms.specs.declared.term.Formula.TheViews.{roll-Formula}
 use Rattle.rw_terms.specs.declared.term.Formula.TheFolds.{fold-roll-Formula}
 use Rattle.rw_terms.specs.Size.{term_weight_step, term_weight, term_depth_step, term_depth, weight_step, formula_weight, depth_step, formula_depth}
 use Rattle.rw_subst.specs.declared.size.Size.{Size}

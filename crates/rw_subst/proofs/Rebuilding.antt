@@ -1,7 +1,6 @@
 -- The value of what is built again, by induction: that of the old one, where each leaf has the value of what is put for it.
 use Rattle.std.proofs.Common.{◌≡◌, ◌↔◌, ℕ, suc, Bool, true, false, ◌||◌, List, [], ◌∷◌, map, slice_get, refl, sym, ap, ◌∙◌, subst, true≢false, ◌<ℤ◌, ◌≤ℤ◌, bytes_eq}
 use Rattle.std.proofs.lemmas.Slice.Eq.{bytes_eq-Decides}
-use Rattle.rw_terms.specs.declared.term.Sort.{Sort}
 use Rattle.rw_terms.specs.declared.term.Term.{Term}
 use Rattle.rw_terms.specs.declared.term.Term.TheVariants as v
 use Rattle.rw_terms.specs.declared.term.Term.TheOpen.{Term-F}
@@ -12,7 +11,7 @@ use Rattle.rw_terms.specs.declared.term.Formula.TheVariants as formula
 use Rattle.rw_terms.specs.declared.term.Formula.TheOpen.{Formula-F}
 use Rattle.rw_terms.specs.declared.term.Formula.TheViews.{roll-Formula}
 use Rattle.rw_terms.specs.declared.term.Formula.TheFolds.{map-Formula, ind-Formula, fold-roll-Formula}
-use Rattle.rw_terms.specs.State.{Value, whole, given, HasSort}
+use Rattle.rw_terms.specs.State.{Value, whole, given}
 use Rattle.rw_terms.specs.Value.{value_step}
 use Rattle.rw_terms.specs.Truth.{Definition, predicates_of}
 use Rattle.rw_terms.proofs.Truths.{to_layer, from_layer, layer_truth}

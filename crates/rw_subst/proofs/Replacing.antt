@@ -1,5 +1,5 @@
 -- The laws of replacement, opening and closing.
-use Rattle.std.proofs.Common.{◌≡◌, ℕ, zero, suc, Bool, true, false, ◌&&◌, if◌then◌else◌, List, [], ◌∷◌, map, drop, nat_eq, slice_get, IsTrue, refl, sym, ap, ◌∙◌, true≢false, reverse}
+use Rattle.std.proofs.Common.{◌≡◌, ℕ, zero, suc, Bool, true, false, ◌&&◌, if◌then◌else◌, List, [], ◌∷◌, map, drop, nat_eq, slice_get, refl, sym, ap, ◌∙◌, true≢false, reverse}
 use Rattle.std.proofs.lemmas.Bool.Decides.{Decides-eqb}
 use Rattle.rw_terms.specs.declared.term.Term.{Term}
 use Rattle.rw_terms.specs.declared.term.Term.TheVariants as v
@@ -16,7 +16,7 @@ use Rattle.rw_subst.specs.Looks.{Looks, value_of, looks_with, changed_looks, in_
 use Rattle.rw_subst.specs.Stands.{stands_in_term, stands_in, AreApart}
 use Rattle.rw_subst.specs.Laws.{ReplacementKeepsValues, ReplacementKeepsTruth, ReplacementInStates, ReplacementHoldsInStates, InitialChangesAreClosed, OpeningKeepsTruth, OpeningHoldsInStates, ClosingKeepsTruth, ClosingHoldsInStates}
 use Rattle.rw_subst.proofs.ClosedTerms.{both_left, both_right, closed_value, plain_value, binder_value}
-use Rattle.rw_subst.proofs.Rebuilding.{Test, NamesFit, BindersFit, GoesInside, kept_term, kept_formula}
+use Rattle.rw_subst.proofs.Rebuilding.{Test, kept_term, kept_formula}
 use Rattle.rw_subst.proofs.States.{no_clash, with_agrees, changes_agree}
 
 -- every name

@@ -1,6 +1,6 @@
 -- Look-ups with other values of some slots are those of states with these values, where no name stands both as variable and as
 -- constant.
-use Rattle.std.proofs.Common.{◌≡◌, ℕ, Bool, true, false, ◌||◌, if◌then◌else◌, List, [], ◌∷◌, map, Option, Some, IsTrue, refl, sym, true≢false}
+use Rattle.std.proofs.Common.{◌≡◌, ℕ, Bool, true, false, ◌||◌, if◌then◌else◌, List, [], ◌∷◌, map, Option, Some, refl, sym, true≢false}
 use Rattle.rw_terms.specs.State.{Value, given, State}
 use Rattle.rw_terms.specs.Value.{value}
 use Rattle.rw_subst.specs.declared.slot.Form.{Form}

@@ -10,3 +10,4 @@ pub mod Looks
 pub mod Laws
 pub mod Conj
 pub mod Definedness
+pub mod Guards

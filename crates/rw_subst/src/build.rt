@@ -74,12 +74,7 @@ fn inner(
 
 /// The term built again, with so many binders around it.
 #[cycle(build_term)]
-pub fn build_term(
-    alloc: Global,
-    rule: &Rule,
-    term: &Term,
-    under: u32,
-) -> Result<Term, AllocError>
+pub fn build_term(alloc: Global, rule: &Rule, term: &Term, under: u32) -> Result<Term, AllocError>
     ensures { IfOk result (λ t. t ≡ rebuilt_term (leaves_of rule.now) under term.now) }
 {
     match term {

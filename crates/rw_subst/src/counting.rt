@@ -61,7 +61,11 @@ pub fn count_guard(scope: &Scope, guard: &Formula, so_far: Option<Size>) -> Opti
             let so_far = count_term(scope, t, so_far);
             count_term(scope, u, so_far)
         }
-        Formula::Not(f) | Formula::All(_, f) | Formula::Any(_, f) => count_guard(scope, f.get(), so_far),
+        Formula::Not(f) | Formula::All(_, f) | Formula::Any(_, f) => count_guard(
+            scope,
+            f.get(),
+            so_far,
+        ),
         Formula::And(f, g) | Formula::Or(f, g) | Formula::Imp(f, g) => {
             let so_far = count_guard(scope, f.get(), so_far);
             count_guard(scope, g.get(), so_far)

@@ -1,5 +1,6 @@
 //! Laws of the definitions. A caller learns them from the contract; the calls do nothing.
 
+ghost use Rattle.rw_subst.specs.Guards.{DefinednessOfTerms, DefinednessOfGuards};
 ghost use Rattle.rw_subst.specs.Laws.{ReplacementKeepsValues, ReplacementKeepsTruth, ReplacementInStates, ReplacementHoldsInStates, InitialChangesAreClosed, OpeningKeepsTruth, OpeningHoldsInStates, ClosingKeepsTruth, ClosingHoldsInStates};
 
 /// What is replaced has the value, and holds or not, as the old one does where each slot has the value of its term.
@@ -22,4 +23,10 @@ pub fn opening()
 pub fn closing()
     ensures truth { ClosingKeepsTruth }
     ensures in_states { ClosingHoldsInStates }
+{}
+
+/// The formulas of `defined` and `defined_guard` hold exactly where the term and all terms of the guard are defined.
+pub fn definedness()
+    ensures terms { DefinednessOfTerms }
+    ensures guards { DefinednessOfGuards }
 {}

@@ -44,7 +44,10 @@ pub fn size_of_formula(rule: &Rule, formula: &Formula, under: u32) -> Size
         Formula::Not(f) => above(size_of_formula(rule, f.get(), under)),
         Formula::All(_, f) | Formula::Any(_, f) => above(size_of_formula(rule, f.get(), under + 1)),
         Formula::And(f, g) | Formula::Or(f, g) | Formula::Imp(f, g) => {
-            above_two(size_of_formula(rule, f.get(), under), size_of_formula(rule, g.get(), under))
+            above_two(
+                size_of_formula(rule, f.get(), under),
+                size_of_formula(rule, g.get(), under),
+            )
         }
         Formula::App(_, args) => above(size_of_terms(rule, args.as_slice(), under)),
     }
@@ -75,7 +78,10 @@ pub fn size_of_term(rule: &Rule, term: &Term, under: u32) -> Size
         ),
         Term::Put(a, i, e) => above(beside(
             size_of_term(rule, a.get(), under),
-            beside(size_of_term(rule, i.get(), under), size_of_term(rule, e.get(), under)),
+            beside(
+                size_of_term(rule, i.get(), under),
+                size_of_term(rule, e.get(), under),
+            ),
         )),
         Term::Fun(_, args) => above(size_of_terms(rule, args.as_slice(), under)),
     }

@@ -9,7 +9,6 @@ use crate::slot::Change;
 use rw_items::Items;
 use rw_terms::measure;
 use rw_terms::sorts::{MOST_DEPTH, MOST_PARTS};
-
 use rw_terms::term::Term;
 use std::alloc::{AllocError, Global};
 

@@ -1,6 +1,6 @@
 use Rattle.std.proofs.Common.{◌≡◌, ◌++◌, ◌∷◌, [], List, sym, ap, ◌∙◌, append-nil}
 use Rattle.rw_terms.specs.declared.term.Formula.{Formula}
-use Rattle.rw_subst.specs.Definedness.{nonzero, in_range, conditions, conditions_of}
+use Rattle.rw_subst.specs.Definedness.{in_range, conditions, conditions_of}
 use Rattle.rw_subst.proofs.Asking.{asks_nothing, asks_neg, asks_two, asks_quotient, asks_read, asks_put, asks_fun, found_both, found_is, found_behind}
 use Rattle.rw_subst.proofs.conditions.+ask_term.Goals as goal
 

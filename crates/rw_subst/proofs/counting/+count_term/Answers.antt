@@ -3,7 +3,7 @@ use Rattle.rw_terms.specs.declared.term.Term.{Term}
 use Rattle.rw_terms.specs.declared.term.Formula.{Formula}
 use Rattle.rw_terms.specs.declared.scope.Entry.{Entry}
 use Rattle.rw_subst.specs.declared.size.Size.{Size}
-use Rattle.rw_subst.specs.Conj.{formula_size, size_and_also, sizes_joined}
+use Rattle.rw_subst.specs.Conj.{size_and_also, sizes_joined}
 use Rattle.rw_subst.specs.Definedness.{nonzero, in_range, conditions, conditions_of}
 use Rattle.rw_subst.proofs.Asking.{asks_nothing, asks_neg, asks_two, asks_quotient, asks_read, asks_put, asks_fun}
 use Rattle.rw_subst.proofs.Joining.{sizes_append, sizes_both}

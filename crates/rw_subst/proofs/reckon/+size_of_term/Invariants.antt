@@ -10,9 +10,9 @@ invariant-size_of_terms-loop-term l = record {
   heavy : l.all.weight ≤ 4294967295;
   deep : l.all.depth ≤ 4294967295;
   weight :
-    min (l.all.weight + terms_weight (map (rebuilt_term (leaves_of l.rule) l.under) (drop l.term-index l.terms))) 4294967295
-    ≡ min (terms_weight (map (rebuilt_term (leaves_of l.rule) l.under) l.terms)) 4294967295;
+      min (l.all.weight + terms_weight (map (rebuilt_term (leaves_of l.rule) l.under) (drop l.term-index l.terms))) 4294967295
+      ≡ min (terms_weight (map (rebuilt_term (leaves_of l.rule) l.under) l.terms)) 4294967295;
   depth :
-    min (max l.all.depth (terms_depth (map (rebuilt_term (leaves_of l.rule) l.under) (drop l.term-index l.terms)))) 4294967295
-    ≡ min (terms_depth (map (rebuilt_term (leaves_of l.rule) l.under) l.terms)) 4294967295;
+      min (max l.all.depth (terms_depth (map (rebuilt_term (leaves_of l.rule) l.under) (drop l.term-index l.terms)))) 4294967295
+      ≡ min (terms_depth (map (rebuilt_term (leaves_of l.rule) l.under) l.terms)) 4294967295;
 }
