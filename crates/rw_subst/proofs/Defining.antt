@@ -1,7 +1,8 @@
 -- The law of definedness: the conditions of a term hold exactly where it is defined.
-use Rattle.std.proofs.Common.{◌≡◌, ◌≢◌, ◌↔◌, ℕ, ◌<◌, ℤ, pos, negsuc, ◌<ℤ◌, ◌≤ℤ◌, List, [], ◌∷◌, ◌++◌, length, reverse, Some, None, refl, sym, ap, ◌∙◌, subst, arith}
+use Rattle.std.proofs.Common.{Option, ◌≡◌, ◌≢◌, ◌↔◌, ℕ, ◌<◌, ℤ, pos, negsuc, ◌<ℤ◌, ◌≤ℤ◌, List, [], ◌∷◌, ◌++◌, length, reverse, Some, None, refl, sym, ap, ◌∙◌, subst, arith}
 use Rattle.std.proofs.lemmas.Int.{ints}
 use Rattle.rw_terms.specs.declared.scope.Entry.{Entry}
+use Rattle.rw_terms.specs.declared.term.Sort.{Sort}
 use Rattle.rw_terms.specs.declared.term.Sort.TheVariants.{Int, Array}
 use Rattle.rw_terms.specs.declared.term.Term.{Term}
 use Rattle.rw_terms.specs.declared.term.Term.TheVariants as v
@@ -15,7 +16,8 @@ use Rattle.rw_terms.specs.declared.term.Formula.TheViews.{roll-Formula}
 use Rattle.rw_terms.specs.State.{Value, Whole, Cells, whole, cells, State, value_in, HasSort, Fits}
 use Rattle.rw_terms.specs.Value.{value_step, value}
 use Rattle.rw_terms.specs.Truth.{Definition, predicates_of, holds}
-use Rattle.rw_terms.specs.Sorts.{SortReport, sort_report, sort_report_step}
+use Rattle.rw_terms.specs.Sorts.{sort_report}
+use Rattle.rw_terms.specs.Rules.{of_ints, sort_step, sort_in}
 use Rattle.rw_terms.specs.Defined.{IsIndex, PartDefined, Defined}
 use Rattle.rw_terms.specs.Validity.{Each}
 use Rattle.rw_terms.proofs.Truths.{to_layer, from_layer, layer_truth}
@@ -26,7 +28,7 @@ use Rattle.rw_subst.specs.Definedness.{array_length, nonzero, not_negative, belo
 use Rattle.rw_subst.specs.Guards.{DefinednessOfTerms}
 use Rattle.rw_subst.proofs.Asking.{paired, asks_layer}
 use Rattle.rw_subst.proofs.Every.{OfParts, every_term}
-use Rattle.rw_subst.proofs.WellSorted.{HasNoFault, unary_parts, binary_parts, read_parts, put_parts, gives_int, gives_array}
+use Rattle.rw_subst.proofs.WellSorted.{int_part, int_parts, read_parts, put_parts, reported}
 
 pub then : {A B C : Type 0} → A ↔ B → B ↔ C → A ↔ C
 then e f = (λ a. f.0 (e.0 a), λ c. e.1 (f.1 c))
@@ -114,8 +116,11 @@ module _ (scope : List Entry) (library : List Definition) (s0 s : State) (fits0 
       then (λ k. (k.0, k.1.0), λ k. (k.0, (k.1, tt)))
       (then both (index_iff (whole (val i)) m (cells (val a)) (cells_length (val a) n h ∙ sym (ap array_length e))))
 
+  abbrev IsSorted : Term → Sort → Type 0
+  IsSorted t sort = sort_in scope [] t ≡ Some sort
+
   abbrev Claim : Term → Type 0
-  Claim t = HasNoFault scope t → AllHold (conditions scope t) ↔ Defined s0 s t
+  Claim t = (sort : Sort) → IsSorted t sort → AllHold (conditions scope t) ↔ Defined s0 s t
 
   abbrev Layer : Type 0
   Layer = Term-F ((t : Term) × Claim t)
@@ -124,58 +129,54 @@ module _ (scope : List Entry) (library : List Definition) (s0 s : State) (fits0 
   under = map-Term ((t : Term) × Claim t) Term (λ e. e.0)
 
   -- two parts that ask nothing more
-  two : (a b : (t : Term) × Claim t) → HasNoFault scope a.0 → HasNoFault scope b.0 → AllHold (conditions scope a.0 ++ conditions scope b.0) ↔ (Defined s0 s a.0 × Defined s0 s b.0)
-  two a b p q = then (each_append IsTrueHere (conditions scope a.0) (conditions scope b.0)) (and_iff (a.1 p) (b.1 q))
+  two : (a b : (t : Term) × Claim t) (q r : Sort) → IsSorted a.0 q → IsSorted b.0 r → AllHold (conditions scope a.0 ++ conditions scope b.0) ↔ (Defined s0 s a.0 × Defined s0 s b.0)
+  two a b q r e f = then (each_append IsTrueHere (conditions scope a.0) (conditions scope b.0)) (and_iff (a.1 q e) (b.1 r f))
 
-  plain : (a b : (t : Term) × Claim t) → HasNoFault scope a.0 → HasNoFault scope b.0 → AllHold (conditions scope a.0 ++ conditions scope b.0) ↔ (Unit {0} × (Defined s0 s a.0 × Defined s0 s b.0))
-  plain a b p q = then (two a b p q) before
+  plain : (a b : (t : Term) × Claim t) (sort : Sort) → of_ints (sort_in scope [] a.0) (sort_in scope [] b.0) ≡ Some sort →
+      AllHold (conditions scope a.0 ++ conditions scope b.0) ↔ (Unit {0} × (Defined s0 s a.0 × Defined s0 s b.0))
+  plain a b sort h = let parts = int_parts _ _ sort h in then (two a b Int Int parts.0 parts.1) before
 
   swap : {A B : Type 0} → (A × B) ↔ (B × A)
   swap = (λ h. (h.1, h.0), λ h. (h.1, h.0))
 
-  quotient : (a b : (t : Term) × Claim t) → HasNoFault scope a.0 → HasNoFault scope b.0 → HasSort (val b.0) Int →
+  quotient : (a b : (t : Term) × Claim t) (sort : Sort) → of_ints (sort_in scope [] a.0) (sort_in scope [] b.0) ≡ Some sort →
       AllHold ((conditions scope a.0 ++ conditions scope b.0) ++ nonzero b.0 ∷ []) ↔ ((whole (val b.0) ≢ pos 0) × (Defined s0 s a.0 × Defined s0 s b.0))
-  quotient a b p q h =
-      then (each_append IsTrueHere (conditions scope a.0 ++ conditions scope b.0) (nonzero b.0 ∷ [])) (then (and_iff (two a b p q) (nonzero_holds b.0 h)) swap)
+  quotient a b sort h =
+      let parts = int_parts _ _ sort h in
+      then (each_append IsTrueHere (conditions scope a.0 ++ conditions scope b.0) (nonzero b.0 ∷ []))
+      (then (and_iff (two a b Int Int parts.0 parts.1) (nonzero_holds b.0 (values_have_sort scope b.0 Int parts.1 s0 s fits0 fits))) swap)
 
-  int_value : (t : Term) → HasNoFault scope t → (sort_report scope [] t).sort ≡ Some Int → HasSort (val t) Int
-  int_value t h e = values_have_sort scope t Int h e s0 s fits0 fits
+  range : (a i : Term) (n : ℕ) → IsSorted a (Array n) → AllHold (in_range scope a i) ↔ IsIndex (whole (val i)) (cells (val a))
+  range a i n e = in_range_holds a i n (reported scope a (Array n) e) (values_have_sort scope a (Array n) e s0 s fits0 fits)
 
-  array_value : (t : Term) (n : ℕ) → HasNoFault scope t → (sort_report scope [] t).sort ≡ Some (Array n) → HasSort (val t) (Array n)
-  array_value t n h e = values_have_sort scope t (Array n) h e s0 s fits0 fits
-
-  claim_layer : (y : Layer) → (sort_report_step scope [] (map-Term Term SortReport (sort_report scope []) (under y))).fault 1 ≡ None →
+  claim_layer : (y : Layer) (sort : Sort) → sort_step scope [] (map-Term Term (Option Sort) (sort_in scope []) (under y)) ≡ Some sort →
       AllHold (conditions_step scope (map-Term Term (Term × List Formula) (paired scope) (under y))) ↔ (PartDefined s0 s (under y) × OfParts (Defined s0 s) (under y))
-  claim_layer (Term-F.Lit n) h = before
-  claim_layer (Term-F.Var x) h = before
-  claim_layer (Term-F.Init x) h = before
-  claim_layer (Term-F.Const x) h = before
-  claim_layer (Term-F.Bound k) h = before
-  claim_layer (Term-F.Neg a) h = then (a.1 (unary_parts scope a.0 h)) before
-  claim_layer (Term-F.Add a b) h = let parts = binary_parts scope a.0 b.0 1 h in plain a b parts.0 parts.1
-  claim_layer (Term-F.Sub a b) h = let parts = binary_parts scope a.0 b.0 1 h in plain a b parts.0 parts.1
-  claim_layer (Term-F.Mul a b) h = let parts = binary_parts scope a.0 b.0 1 h in plain a b parts.0 parts.1
-  claim_layer (Term-F.Div a b) h =
-      let parts = binary_parts scope a.0 b.0 1 h in quotient a b parts.0 parts.1 (int_value b.0 parts.1 (gives_int scope b.0 parts.1 parts.2))
-  claim_layer (Term-F.Mod a b) h =
-      let parts = binary_parts scope a.0 b.0 1 h in quotient a b parts.0 parts.1 (int_value b.0 parts.1 (gives_int scope b.0 parts.1 parts.2))
-  claim_layer (Term-F.Read a i) h =
-      let parts = read_parts scope a.0 i.0 h in
-      let sort = gives_array scope a.0 parts.0 parts.2 in
+  claim_layer (Term-F.Lit n) sort h = before
+  claim_layer (Term-F.Var x) sort h = before
+  claim_layer (Term-F.Init x) sort h = before
+  claim_layer (Term-F.Const x) sort h = before
+  claim_layer (Term-F.Bound k) sort h = before
+  claim_layer (Term-F.Neg a) sort h = then (a.1 Int (int_part _ sort h)) before
+  claim_layer (Term-F.Add a b) sort h = plain a b sort h
+  claim_layer (Term-F.Sub a b) sort h = plain a b sort h
+  claim_layer (Term-F.Mul a b) sort h = plain a b sort h
+  claim_layer (Term-F.Div a b) sort h = quotient a b sort h
+  claim_layer (Term-F.Mod a b) sort h = quotient a b sort h
+  claim_layer (Term-F.Read a i) sort h =
+      let parts = read_parts _ _ sort h in
       then (each_append IsTrueHere (conditions scope a.0 ++ conditions scope i.0) (in_range scope a.0 i.0))
-      (then (and_iff (two a i parts.0 parts.1) (in_range_holds a.0 i.0 sort.0 sort.1 (array_value a.0 sort.0 parts.0 sort.1))) swap)
-  claim_layer (Term-F.Put a i e) h =
-      let parts = put_parts scope a.0 i.0 e.0 h in
-      let sort = gives_array scope a.0 parts.0 parts.3 in
-      let three = then (each_append IsTrueHere (conditions scope a.0 ++ conditions scope i.0) (conditions scope e.0)) (and_iff (two a i parts.0 parts.1) (e.1 parts.2)) in
+      (then (and_iff (two a i (Array parts.length) Int parts.array parts.index) (range a.0 i.0 parts.length parts.array)) swap)
+  claim_layer (Term-F.Put a i e) sort h =
+      let parts = put_parts _ _ _ sort h in
+      let three = then (each_append IsTrueHere (conditions scope a.0 ++ conditions scope i.0) (conditions scope e.0)) (and_iff (two a i (Array parts.length) Int parts.array parts.index) (e.1 Int parts.item)) in
       let flat = then three (λ k. (k.0.0, k.0.1, k.1), λ k. ((k.0, k.1), k.2)) in
       then (each_append IsTrueHere ((conditions scope a.0 ++ conditions scope i.0) ++ conditions scope e.0) (in_range scope a.0 i.0))
-      (then (and_iff flat (in_range_holds a.0 i.0 sort.0 sort.1 (array_value a.0 sort.0 parts.0 sort.1))) swap)
-  claim_layer (Term-F.Fun f args) h = absurd (cc)
+      (then (and_iff flat (range a.0 i.0 parts.length parts.array)) swap)
+  claim_layer (Term-F.Fun f args) sort h = absurd (cc)
 
   claim_at : (y : Layer) → Claim (roll-Term (under y))
-  claim_at y h =
-      let layer = claim_layer y (sym (ap (λ l. l.fault 1) (fold-roll-Term SortReport (sort_report_step scope []) (under y))) ∙ h) in
+  claim_at y sort h =
+      let layer = claim_layer y sort (sym (fold-roll-Term (Option Sort) (sort_step scope []) (under y)) ∙ h) in
       let asked = asks_layer scope (under y) in
       then (λ k. subst AllHold asked k, λ k. subst AllHold (sym asked) k) (then layer (back (every_term (PartDefined s0 s) (under y))))
 
@@ -184,4 +185,4 @@ module _ (scope : List Entry) (library : List Definition) (s0 s : State) (fits0 
 
 pub definedness_of_terms : DefinednessOfTerms
 definedness_of_terms scope t sort formed library s0 s fits0 fits =
-    then (conj_holds scope library s0 s fits0 fits (conditions scope t)) (term_claim scope library s0 s fits0 fits t formed.1)
+    then (conj_holds scope library s0 s fits0 fits (conditions scope t)) (term_claim scope library s0 s fits0 fits t sort formed.1)

@@ -10,7 +10,7 @@ use Rattle.rw_terms.specs.declared.scope.Head.{Head}
 use Rattle.rw_terms.specs.State.{State, Fits}
 use Rattle.rw_terms.specs.Truth.{Definition, holds}
 use Rattle.rw_terms.specs.Sorted.{IsOfSort}
-use Rattle.rw_terms.specs.Formed.{IsFormed}
+use Rattle.rw_terms.specs.WellFormed.{IsFormed}
 use Rattle.rw_terms.specs.Defined.{Defined, GuardDefined}
 use Rattle.rw_subst.specs.Definedness.{definedness, guard_definedness}
 

@@ -32,10 +32,10 @@ pub fn ask_term(
             ask_term(alloc, scope, b.get(), found)?;
             found.push(nonzero(alloc, b.get())?)
         }
-        Term::Read(a, i) => {
+        Term::Read(a, at) => {
             ask_term(alloc, scope, a.get(), found)?;
-            ask_term(alloc, scope, i.get(), found)?;
-            ask_range(alloc, scope, a.get(), i.get(), found)
+            ask_term(alloc, scope, at.get(), found)?;
+            ask_range(alloc, scope, a.get(), at.get(), found)
         }
         Term::Put(a, i, e) => {
             ask_term(alloc, scope, a.get(), found)?;

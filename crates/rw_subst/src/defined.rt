@@ -1,10 +1,11 @@
 //! Where a term and a guard are defined, as a formula.
 
 ghost use Rattle.std.specs.Prelude.{◌≡◌, min, IfOk, IfErr};
+ghost use Rattle.rw_terms.specs.WellFormed.{IsSmallFormula};
 ghost use Rattle.rw_terms.specs.Size.{formula_weight, formula_depth};
 ghost use Rattle.rw_subst.specs.Conj.{size_or_one};
 ghost use Rattle.rw_subst.specs.Definedness.{definedness, guard_definedness};
-ghost use Rattle.rw_subst.specs.Limits.{IsSmallFormula, IsFormulaRefusal};
+ghost use Rattle.rw_subst.specs.Limits.{IsFormulaRefusal};
 
 use crate::conditions::{ask_guard, ask_term, join};
 use crate::counting::{count_guard, count_term};

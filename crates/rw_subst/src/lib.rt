@@ -12,3 +12,5 @@ pub mod replace;
 mod rule;
 mod size;
 pub mod slot;
+#[cfg(test)]
+mod tests;

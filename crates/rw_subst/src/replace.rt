@@ -1,8 +1,10 @@
 //! Replacement at once, and what is made of it. Every function reckons the size of its result first, and builds none that passes a limit.
 
 ghost use Rattle.std.specs.Prelude.{◌≡◌, IfOk, IfErr, map};
+ghost use Rattle.rw_terms.specs.Sorted.{IsSmall};
+ghost use Rattle.rw_terms.specs.WellFormed.{IsSmallFormula};
 ghost use Rattle.rw_subst.specs.Leaves.{rebuilt_term, rebuilt_formula};
-ghost use Rattle.rw_subst.specs.Limits.{IsSmallTerm, IsSmallFormula, IsTermRefusal, IsFormulaRefusal};
+ghost use Rattle.rw_subst.specs.Limits.{IsTermRefusal, IsFormulaRefusal};
 ghost use Rattle.rw_subst.specs.Replaced.{replaced_term, replaced_formula, to_initial, from_initial, opened, closed};
 ghost use Rattle.rw_subst.specs.Rules.{leaves_of, IsMeasured};
 
@@ -31,7 +33,7 @@ pub fn replace(alloc: Global, formula: &Formula, changes: &[Change]) -> Result<F
 /// The same of a term.
 pub fn replace_term(alloc: Global, term: &Term, changes: &[Change]) -> Result<Term, SubstError>
     ensures replaced { IfOk result (λ t. t ≡ replaced_term changes.now term.now) }
-    ensures small { IfOk result IsSmallTerm }
+    ensures small { IfOk result IsSmall }
     ensures large { IfErr result (IsTermRefusal (replaced_term changes.now term.now)) }
 {
     let sizes = sizes_of(alloc, changes)?;

@@ -1,7 +1,7 @@
 //! How large terms and formulas are, by both limits.
 
 ghost use Rattle.std.specs.Prelude.{◌≡◌, ◌+◌, min, max, map, IfOk, IfErr};
-ghost use Rattle.rw_subst.specs.Limits.{IsSmall};
+ghost use Rattle.rw_subst.specs.Limits.{IsWithin};
 ghost use Rattle.rw_subst.specs.Sizes.{term_size, IsPast};
 
 use crate::error::SubstError;
@@ -73,7 +73,7 @@ pub fn beside(one: Size, other: Size) -> Size
 
 /// Refuses what passes a limit.
 pub fn fit(size: Size) -> Result<(), SubstError>
-    ensures ok { IfOk result (λ _. IsSmall size.weight size.depth) }
+    ensures ok { IfOk result (λ _. IsWithin size.weight size.depth) }
     ensures err { IfErr result (IsPast size) }
 {
     if size.weight > MOST_PARTS || size.depth > MOST_DEPTH {

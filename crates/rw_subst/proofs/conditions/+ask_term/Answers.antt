@@ -50,7 +50,7 @@ ask_term-returns-in_ok-ask_term-in-Read-2 t c =
     found_behind c.ask_range.result c.args.found.now c.ask_term-in-Read-2.new.found c.ask_range.new.found (k c.get-in-Read.result.now ++ k c.get-in-Read-2.result.now)
     (in_range c.args.scope.now c.get-in-Read-3.result.now c.get-in-Read-4.result.now) (k c.args.term.now)
     (found_both c.args.found.now c.ask_term-in-Read.new.found c.ask_term-in-Read-2.new.found (k c.get-in-Read.result.now) (k c.get-in-Read-2.result.now) c.in_ok-ask_term-in-Read.ensures c.in_ok-ask_term-in-Read-2.ensures)
-    (ap k c.in-Read.is ∙ asks_read c.args.scope.now c.in-Read.a c.in-Read.i
+    (ap k c.in-Read.is ∙ asks_read c.args.scope.now c.in-Read.a c.in-Read.at
     ∙ (λ i. (k (sym c.get-in-Read.ensures i) ++ k (sym c.get-in-Read-2.ensures i)) ++ in_range c.args.scope.now (sym c.get-in-Read-3.ensures i) (sym c.get-in-Read-4.ensures i)))
     c.ask_range.ensures
 
