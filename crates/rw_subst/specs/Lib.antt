@@ -11,3 +11,4 @@ pub mod Laws
 pub mod Conj
 pub mod Definedness
 pub mod Guards
+pub mod Kinds

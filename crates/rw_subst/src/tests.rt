@@ -2,7 +2,7 @@
 
 use crate::defined::{defined, defined_guard};
 use crate::error::SubstError;
-use crate::laws::{closing, definedness, opening, replacement};
+use crate::laws::{closing, definedness, kinds, opening, replacement};
 use crate::replace::{close, from_initial, open, replace, replace_term, to_initial};
 use crate::slot::{Change, Slot};
 use rw_items::Boxed;
@@ -173,13 +173,38 @@ fn changes(alloc: Global, pairs: &[(&str, &str)]) -> Result<Vec<Change>, Fail> {
     Ok(changes)
 }
 
+fn is_formula(alloc: Global, found: &Formula, want: &str) -> Result<bool, Fail> {
+    let want = formula(alloc, want)?;
+    Ok(same(found, &want))
+}
+
 fn is_it(alloc: Global, found: Result<Formula, SubstError>, want: &str) -> Result<bool, Fail> {
-    Ok(same(&found?, &formula(alloc, want)?))
+    let found = found?;
+    is_formula(alloc, &found, want)
+}
+
+fn replaced(
+    alloc: Global,
+    old: &Formula,
+    pairs: &[(&str, &str)],
+    want: &str,
+) -> Result<bool, Fail> {
+    let changes = changes(alloc, pairs)?;
+    is_it(alloc, replace(alloc, old, changes.as_slice()), want)
+}
+
+fn replaced_in(
+    alloc: Global,
+    old: &str,
+    pairs: &[(&str, &str)],
+    want: &str,
+) -> Result<bool, Fail> {
+    let old = formula(alloc, old)?;
+    replaced(alloc, &old, pairs, want)
 }
 
 #[test]
 fn slots_change_at_once_and_nothing_is_captured(rt: HostRuntime) -> Result<(), Fail> {
-    let alloc = rt.alloc();
     let cases: [(&str, &[(&str, &str)], &str); 6] = [
         ("x x' 1 + =", &[("x", "x 1 +")], "x 1 + x' 1 + ="),
         ("x x' 1 + =", &[("x'", "x 1 +")], "x x 1 + 1 + ="),
@@ -189,46 +214,61 @@ fn slots_change_at_once_and_nothing_is_captured(rt: HostRuntime) -> Result<(), F
             "0 _0 <= i _0 1 - = not => all",
         ),
         ("x y <", &[("x", "y"), ("y", "x")], "y x <"),
-        (
-            "x K < y K < or",
-            &[("K", "2"), ("y", "K")],
-            "x 2 < K 2 < or",
-        ),
+        ("x K < y K < or", &[("K", "2"), ("y", "K")], "x 2 < K 2 < or"),
         ("x y' <", &[("y", "1"), ("x'", "2")], "x y' <"),
     ];
     for (old, pairs, want) in cases {
-        let changes = changes(alloc, pairs)?;
-        let found = replace(alloc, &formula(alloc, old)?, changes.as_slice());
-        assert!(rt; is_it(alloc, found, want)?, "at {old}");
+        assert!(rt; replaced_in(rt.alloc(), old, pairs, want)?, "at {old}");
     }
     replacement();
+    kinds();
     Ok(())
+}
+
+fn frame(alloc: Global) -> Result<Vec<Name>, Fail> {
+    let mut frame = Vec::new(alloc);
+    for name in ["x", "y"] {
+        frame.push(Name::read(name.as_bytes())?)?;
+    }
+    Ok(frame)
+}
+
+fn made_initial(alloc: Global, old: &str, want: &str) -> Result<bool, Fail> {
+    let old = formula(alloc, old)?;
+    let frame = frame(alloc)?;
+    is_it(alloc, to_initial(alloc, &old, frame.as_slice()), want)
+}
+
+fn made_current(alloc: Global, old: &str, want: &str) -> Result<bool, Fail> {
+    let old = formula(alloc, old)?;
+    let frame = frame(alloc)?;
+    is_it(alloc, from_initial(alloc, &old, frame.as_slice()), want)
 }
 
 #[test]
 fn variables_of_the_frame_become_initial_and_back(rt: HostRuntime) -> Result<(), Fail> {
-    let alloc = rt.alloc();
-    let frame = [Name::read(b"x")?, Name::read(b"y")?];
-    let old = formula(alloc, "x z < y' 1 = and")?;
-    assert!(rt; is_it(alloc, to_initial(alloc, &old, &frame), "x' z < y' 1 = and")?);
-    assert!(rt; is_it(alloc, from_initial(alloc, &old, &frame), "x z < y 1 = and")?);
+    assert!(rt; made_initial(rt.alloc(), "x z < y' 1 = and", "x' z < y' 1 = and")?);
+    assert!(rt; made_current(rt.alloc(), "x' z' < y' 1 = and", "x z' < y 1 = and")?);
     Ok(())
 }
 
+fn opened(alloc: Global, body: &str, put: &str, want: &str) -> Result<bool, Fail> {
+    let body = formula(alloc, body)?;
+    let put = term(alloc, put)?;
+    is_it(alloc, open(alloc, &body, &put), want)
+}
+
+fn closed(alloc: Global, old: &str, taken: &str, want: &str) -> Result<bool, Fail> {
+    let old = formula(alloc, old)?;
+    let taken = slot(alloc, taken)?;
+    is_it(alloc, close(alloc, &old, &taken), want)
+}
+
 #[test]
-fn a_body_is_opened_and_closed_under_quantifiers(rt: HostRuntime) -> Result<(), Fail> {
-    let alloc = rt.alloc();
-    let body = formula(alloc, "_0 x < _1 _0 + y = any and")?;
-    let whole = "y 1 + x < y 1 + _0 + y = any and";
-    assert!(rt; is_it(alloc, open(alloc, &body, &term(alloc, "y 1 +")?), whole)?);
-    let old = formula(alloc, "y x < y _0 + y' = any and")?;
-    assert!(rt;
-        is_it(
-            alloc,
-            close(alloc, &old, &slot(alloc, "y")?),
-            "_0 x < _1 _0 + y' = any and"
-        )?
-    );
+fn bodies_are_opened_and_closed_under_quantifiers(rt: HostRuntime) -> Result<(), Fail> {
+    let body = "_0 x < _1 _0 + y' = any and";
+    assert!(rt; opened(rt.alloc(), body, "y 1 +", "y 1 + x < y 1 + _0 + y' = any and")?);
+    assert!(rt; closed(rt.alloc(), "y x < y _0 + y' = any and", "y", body)?);
     opening();
     closing();
     Ok(())
@@ -237,11 +277,7 @@ fn a_body_is_opened_and_closed_under_quantifiers(rt: HostRuntime) -> Result<(), 
 // An integer `x`, and arrays `a` of 3 and `b` of 4 cells.
 fn scope(alloc: Global) -> Result<Scope, Fail> {
     let mut scope = Scope::new(alloc);
-    for (name, sort) in [
-        ("x", Sort::Int),
-        ("a", Sort::Array(3)),
-        ("b", Sort::Array(4)),
-    ] {
+    for (name, sort) in [("x", Sort::Int), ("a", Sort::Array(3)), ("b", Sort::Array(4))] {
         let name = Name::read(name.as_bytes())?;
         let kind = Kind::Global;
         scope = scope.with(alloc, Entry { name, sort, kind })?;
@@ -249,42 +285,42 @@ fn scope(alloc: Global) -> Result<Scope, Fail> {
     Ok(scope)
 }
 
+fn asked(alloc: Global, scope: &Scope, old: &str, want: &str) -> Result<bool, Fail> {
+    let old = term(alloc, old)?;
+    is_it(alloc, defined(alloc, scope, &old), want)
+}
+
 #[test]
 fn conditions_stand_in_order_of_text(rt: HostRuntime) -> Result<(), Fail> {
-    let alloc = rt.alloc();
-    let scope = scope(alloc)?;
+    let scope = scope(rt.alloc())?;
     for (old, want) in [
         ("x 1 +", "true"),
         ("1 x div", "x 0 = not"),
         ("x 1 x div mod", "x 0 = not 1 x div 0 = not and"),
         ("b x []", "0 x <= x 4 < and"),
         ("a x 1 put x' []", "0 x <= x 3 < and 0 x' <= and x' 3 < and"),
-        (
-            "a b x [] []",
-            "0 x <= x 4 < and 0 b x [] <= and b x [] 3 < and",
-        ),
+        ("a b x [] []", "0 x <= x 4 < and 0 b x [] <= and b x [] 3 < and"),
     ] {
-        let found = defined(alloc, &scope, &term(alloc, old)?);
-        assert!(rt; is_it(alloc, found, want)?, "at {old}");
+        assert!(rt; asked(rt.alloc(), &scope, old, want)?, "at {old}");
     }
     definedness();
     Ok(())
 }
 
+fn asked_of_guard(alloc: Global, scope: &Scope, old: &str, want: &str) -> Result<bool, Fail> {
+    let old = formula(alloc, old)?;
+    is_it(alloc, defined_guard(alloc, scope, &old), want)
+}
+
 #[test]
 fn conditions_of_a_guard_are_those_of_all_its_terms(rt: HostRuntime) -> Result<(), Fail> {
-    let alloc = rt.alloc();
-    let scope = scope(alloc)?;
+    let scope = scope(rt.alloc())?;
     for (old, want) in [
         ("true x 1 < not or", "true"),
         ("x 1 < 1 x div x = or", "x 0 = not"),
-        (
-            "1 x div 1 < a 0 [] 2 x mod = =>",
-            "x 0 = not 0 0 <= and 0 3 < and x 0 = not and",
-        ),
+        ("1 x div 1 < a 0 [] 2 x mod = =>", "x 0 = not 0 0 <= and 0 3 < and x 0 = not and"),
     ] {
-        let found = defined_guard(alloc, &scope, &formula(alloc, old)?);
-        assert!(rt; is_it(alloc, found, want)?, "at {old}");
+        assert!(rt; asked_of_guard(rt.alloc(), &scope, old, want)?, "at {old}");
     }
     Ok(())
 }
