@@ -1,0 +1,14 @@
+pub mod Slots
+pub mod Leaves
+pub mod Replaced
+pub mod Sizes
+pub mod Rules
+pub mod Limits
+pub mod Closed
+pub mod Stands
+pub mod Looks
+pub mod Laws
+pub mod Conj
+pub mod Definedness
+pub mod Guards
+pub mod Kinds

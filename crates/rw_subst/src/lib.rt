@@ -1,0 +1,16 @@
+//! Terms put for names and binders, and where terms are defined.
+#![tactic(auto)]
+
+mod build;
+mod conditions;
+mod counting;
+pub mod defined;
+pub mod error;
+pub mod laws;
+mod reckon;
+pub mod replace;
+mod rule;
+mod size;
+pub mod slot;
+#[cfg(test)]
+mod tests;
