@@ -1,8 +1,8 @@
 //! Reads requests, terms and formulas: exactly the grammar, with the exact offset of a fault.
 #![tactic(auto)]
 
-pub mod class;
-pub mod expression;
+mod class;
+mod expression;
 pub mod laws;
 mod reading;
 pub mod request;
