@@ -1,17 +1,27 @@
 -- What the reader's loop keeps, what it answers at its exits, and that these exclude one another.
-use Rattle.std.proofs.Common.{◌≡◌, ℕ, zero, suc, ◌+◌, ◌-◌, ◌≤◌, ◌<◌, List, [], ◌∷◌, ◌++◌, length, drop, take, Option, Some, None, refl, sym, ap, ◌∙◌, subst, arith, append-nil, append_assoc, inl, inr}
+use Rattle.std.proofs.Common.{◌≡◌, ℕ, zero, suc, ◌+◌, ◌-◌, ◌≤◌, ◌<◌, ◌⊎◌, List, [], ◌∷◌, ◌++◌, length, drop, take, Option, Some, None, refl, sym, ap, ◌∙◌, subst, arith, append-nil, append_assoc, inl, inr, length-drop}
+use Rattle.std.proofs.lemmas.List.{drop_all}
+use Rattle.rw_reader.specs.declared.request.ReadError.{ReadError}
+use Rattle.rw_reader.specs.declared.request.ReadError.TheVariants as read_error
 use Rattle.rw_syntax.specs.declared.token.Token.{Token as Class}
 use Rattle.rw_syntax.specs.declared.frame.Part.{Part}
 use Rattle.rw_syntax.specs.Grammar.{nests}
-use Rattle.rw_syntax.specs.Machine.{State, wants, advance, run_within, finish}
+use Rattle.rw_syntax.specs.declared.state.State.{State}
+use Rattle.rw_syntax.specs.declared.state.State.TheVariants.{Wants as wants}
+use Rattle.rw_syntax.specs.Machine.{advance, run_within, finish}
 use Rattle.rw_syntax.specs.Steps.{advance_shut, finish_shut}
 use Rattle.rw_syntax.specs.Spelling.{AreWithin, Spells, CanGoOn}
 use Rattle.rw_syntax.proofs.Exact.{ends_spells, runs_can, one_value, run_last, refused, no_value}
+use Rattle.rw_syntax.proofs.TermsApart.{terms_only, formulas_only}
+use Rattle.rw_terms.specs.declared.term.Term.{Term}
+use Rattle.rw_terms.specs.declared.term.Formula.{Formula}
+use Rattle.rw_syntax.specs.declared.frame.Part.TheVariants as parts
 use Rattle.rw_reader.specs.Tokens.{Token, skip, front_token, token_at, LeadsTo}
 use Rattle.rw_reader.specs.Classes.{class_of, AreClasses}
 use Rattle.rw_reader.specs.Expressions.{TokensSpell, TokensGoOn, TextSpells, IsFaultOf}
 use Rattle.rw_reader.specs.Turns.{Turns, RefusedAs, Refuses}
 use Rattle.rw_reader.proofs.Grammar.{some_is}
+use Rattle.rw_reader.proofs.Shorter.{shortens}
 use Rattle.rw_reader.proofs.Classes.{same_classes, one_class, last_class, front_classes}
 
 -- what was read up to a place
@@ -22,7 +32,7 @@ pub record Read (goal : ℕ) (line left : List ℕ) (s : State) : Type 0 where
   pub are : AreClasses before classes
   pub runs : run_within goal (wants []) classes ≡ Some s
 
-pub begun : (goal : ℕ) (line left : List ℕ) (s : State) → left ≡ skip line → s ≡ wants [] → Read goal line left s
+pub begun : (goal : ℕ) (line left : List ℕ) (s : State) → left ≡ skip (drop 0 line) → s ≡ wants [] → Read goal line left s
 unfolding run_within
 begun goal line left s e k = record { before = []; classes = []; leads = sym e; are = refl; runs = ap Some (sym k) }
 
@@ -50,12 +60,12 @@ one_more goal line left s there s2 r t = record {
 pub ends_well : (goal : ℕ) (line left : List ℕ) (s : State) (v : Part) → goal ≤ 9 → Read goal line left s → left ≡ [] → finish_shut goal s ≡ Some v → TextSpells goal line v
 ends_well goal line left s v g r e f = (r.before, subst (LeadsTo (skip line) r.before) e r.leads, (r.classes, r.are, ends_spells goal r.classes s v g r.runs (sym (finish_is goal s) ∙ f)))
 
+none_at_end : token_at [] ≡ None
+unfolding token_at front_token
+none_at_end = refl
+
 no_token_at_end : (bytes : List ℕ) (p : Token × List ℕ) → bytes ≡ [] → token_at bytes ≡ Some p → ⊥
-no_token_at_end bytes p e h = absurd (cc (none, ap token_at e, h))
-  where
-    none : token_at [] ≡ None
-    unfolding token_at front_token
-    none = refl
+no_token_at_end bytes p e h = let k : None ≡ Some p = sym none_at_end ∙ ap token_at (sym e) ∙ h in absurd (cc)
 
 -- a text that ends too early
 pub ends_early : (goal : ℕ) (line left : List ℕ) (s : State) → goal ≤ 9 → Read goal line left s → left ≡ [] → finish_shut goal s ≡ None → IsFaultOf goal line (length line)
@@ -86,6 +96,28 @@ stops_here goal line left s o g r more h p = record {
   early = λ z v. absurd (more z);
   place = p;
 }
+
+-- the end of a text
+at_end : (line : List ℕ) (at : ℕ) → length line ≤ at → drop at line ≡ []
+at_end line at h = drop_all at line h
+
+more_left : (line : List ℕ) (at : ℕ) → at < length line → drop at line ≡ [] → ⊥
+more_left line at h e = let n : length (drop at line) ≡ 0 = ap length e in let k = length-drop at line in absurd (omega arith)
+
+-- the faults that a turn tells
+pub turn_faults : (goal : ℕ) (line : List ℕ) (at : ℕ) (s : State) (e : ReadError) → goal ≤ 9 → at < length line → Read goal line (drop at line) s → (e ≡ read_error.Memory) ⊎ ((e ≡ read_error.Syntax at) × Refuses goal (drop at line) s) → (e ≡ read_error.Memory) ⊎ ((o : ℕ) × (e ≡ read_error.Syntax o) × IsFaultOf goal line o)
+turn_faults goal line at s e g h r (inl m) = inl m
+turn_faults goal line at s e g h r (inr k) = inr (at, k.0, stops_here goal line (drop at line) s at g r (more_left line at h) k.1 (let z = length-drop at line in omega arith))
+
+pub end_spells : (goal : ℕ) (line : List ℕ) (at : ℕ) (s : State) (v : Part) (o : Option Part) → goal ≤ 9 → length line ≤ at → Read goal line (drop at line) s → o ≡ finish_shut goal s → o ≡ Some v → TextSpells goal line v
+end_spells goal line at s v o g h r f e = ends_well goal line (drop at line) s v g r (at_end line at h) (sym f ∙ e)
+
+pub end_fault : (goal : ℕ) (line : List ℕ) (at : ℕ) (s : State) (o : Option Part) (e : ReadError) → goal ≤ 9 → length line ≤ at → Read goal line (drop at line) s → o ≡ finish_shut goal s → o ≡ None → e ≡ read_error.Syntax (length line) → (e ≡ read_error.Memory) ⊎ ((o : ℕ) × (e ≡ read_error.Syntax o) × IsFaultOf goal line o)
+end_fault goal line at s o e g h r f n k = inr (length line, k, ends_early goal line (drop at line) s g r (at_end line at h) (sym f ∙ n))
+
+-- a turn takes bytes
+pub turn_falls : (goal : ℕ) (line : List ℕ) (at next : ℕ) (s s2 : State) → Turns goal (drop at line) s (drop next line) s2 → length line - next < length line - at
+turn_falls goal line at next s s2 t = let a = shortens (drop at line) t.token (drop next line) t.stands in let b = length-drop at line in let c = length-drop next line in omega arith
 
 -- one list of tokens begins the other
 record Aligned (before ts : List Token) (left end : List ℕ) : Type 0 where
@@ -157,12 +189,13 @@ same_tokens here (t ∷ ts) (u ∷ us) a b =
     let same = some_is (sym a.1 ∙ b.1) in
     ap (λ p. p.0 ∷ ts) same ∙ ap (λ l. u ∷ l) (same_tokens a.0 ts us a.2 (subst (λ x. LeadsTo x us []) (sym (ap (λ p. p.1) same)) b.2))
 
+-- tokens have one value
+pub one_tokens_value : (goal : ℕ) (ts : List Token) (v w : Part) → goal ≤ 9 → TokensSpell goal ts v → TokensSpell goal ts w → v ≡ w
+one_tokens_value goal ts v w g x y = one_value goal x.0 v w g x.2 (subst (λ cs. Spells goal cs w) (same_classes ts y.0 x.0 y.1 x.1) y.2)
+
 -- a text has one value
 pub one_text_value : (goal : ℕ) (line : List ℕ) (v w : Part) → goal ≤ 9 → TextSpells goal line v → TextSpells goal line w → v ≡ w
-one_text_value goal line v w g a b =
-    let x = a.2 in
-    let y : TokensSpell goal a.0 w = subst (λ l. TokensSpell goal l w) (same_tokens (skip line) b.0 a.0 b.1 a.1) b.2 in
-    one_value goal x.0 v w g x.2 (subst (λ cs. Spells goal cs w) (same_classes a.0 y.0 x.0 y.1 x.1) y.2)
+one_text_value goal line v w g a b = one_tokens_value goal a.0 v w g a.2 (subst (λ l. TokensSpell goal l w) (same_tokens (skip line) b.0 a.0 b.1 a.1) b.2)
 
 same_place : (goal : ℕ) (line : List ℕ) (o p : ℕ) (f : IsFaultOf goal line o) (h : IsFaultOf goal line p) (more : List Token) → h.before ≡ f.before ++ more → LeadsTo f.left more h.left → o ≡ p
 same_place goal line o p f h [] e l = let n : length f.left ≡ length h.left = ap length l in let a = f.place in let b = h.place in omega arith
@@ -182,3 +215,10 @@ one_fault goal line o p f h = go (either_way (length f.before) (length h.before)
     go : (length f.before ≤ length h.before) ⊎ (length h.before ≤ length f.before) → o ≡ p
     go (inl n) = first_fault goal line o p f h n
     go (inr n) = sym (first_fault goal line p o h f n)
+
+-- what is read as a term is no formula, and what is read as a formula no term
+pub no_formula : (line : List ℕ) (v : Part) (f : Formula) → v ≡ parts.Formula f → TextSpells 6 line v → ⊥
+no_formula line v f e t = let s = t.2 in terms_only s.0 f (subst (Spells 6 s.0) e s.2)
+
+pub no_term : (line : List ℕ) (v : Part) (t : Term) → v ≡ parts.Term t → TextSpells 1 line v → ⊥
+no_term line v u e t = let s = t.2 in formulas_only s.0 u (subst (Spells 1 s.0) e s.2)

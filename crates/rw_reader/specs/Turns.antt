@@ -1,7 +1,7 @@
 -- One turn of the reader's loop.
 use Rattle.std.specs.Prelude.{◌≡◌, ℕ, List, Option, Some, None, ◌⊎◌}
 use Rattle.rw_syntax.specs.declared.token.Token.{Token as Class}
-use Rattle.rw_syntax.specs.Machine.{State}
+use Rattle.rw_syntax.specs.declared.state.State.{State}
 use Rattle.rw_syntax.specs.Steps.{advance_shut}
 use Rattle.rw_reader.specs.Tokens.{Token, token_at}
 use Rattle.rw_reader.specs.Classes.{class_of}

@@ -34,7 +34,7 @@ fn turn(
     state: State,
 ) -> Result<(State, usize), ReadError>
     requires place { IsPlace text.now at }
-    requires open { nest state ≤ 512 }
+    requires opened { nest state ≤ 512 }
     ensures within { IfOk result (λ p. (nest p.0 ≤ 512) × (p.1 ≤ length text.now)) }
     ensures turns { IfOk result (λ p. Turns goal (drop at text.now) state (drop p.1 text.now) p.0) }
     ensures err { IfErr result (λ e. (e ≡ read_error.Memory) ⊎ ((e ≡ read_error.Syntax at) × Refuses goal (drop at text.now) state)) }

@@ -10,4 +10,5 @@ pub mod After
 pub mod Goes
 pub mod Reading
 pub mod Exact
+pub mod TermsApart
 pub mod Endings
