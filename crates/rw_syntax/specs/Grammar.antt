@@ -312,8 +312,9 @@ abbrev mutual
   values env none = []
   values env (more ts t) = values env ts ++ as_term (part env t) ∷ []
 
--- The nest at each token: the brackets, prefixes, quantifiers and implications that are open there, and of a
--- chain of operands that is not ended its left-associating operators so far, of a read its indices so far.
+-- The nest at each token, itself included: the brackets, prefixes, quantifiers and implications that are open there,
+-- and of a chain of operands that is not ended its left-associating operators so far, of a read its indices so far.
+-- An index counts from its bracket on, which counts too until it is closed.
 
 -- what an operator adds behind a left operand of a level that has a number of operators in its chain
 abbrev pub adds : Infix → ℕ → ℕ → ℕ
@@ -350,7 +351,7 @@ abbrev mutual
   nests d (prefix p t) = each (suc d) (prefix_text p) ++ nests (suc d) t
   nests d (binary op l r) = nests d l ++ (d + adds op (level l) (chain l)) ∷ nests (d + adds op (level l) (chain l)) r
   nests d (group t) = suc d ∷ nests (suc d) t ++ d ∷ []
-  nests d (index t u) = nests d t ++ (d + suc (chain t)) ∷ (nests (d + suc (chain t)) u ++ (d + suc (chain t)) ∷ [])
+  nests d (index t u) = nests d t ++ (d + suc (suc (chain t))) ∷ (nests (d + suc (suc (chain t))) u ++ (d + suc (chain t)) ∷ [])
   nests d (call h ts t) = d ∷ suc d ∷ (each_nests (suc d) ts ++ (nests (suc d) t ++ d ∷ []))
 
   pub each_nests : ℕ → Trees → List ℕ

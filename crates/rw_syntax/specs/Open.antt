@@ -60,7 +60,7 @@ abbrev pub frame_nest : Frame → ℕ → ℕ
 frame_nest (frames.Prefix p) d = suc d
 frame_nest (frames.Infix op u c) d = d + c
 frame_nest (frames.Group only) d = suc d
-frame_nest (frames.Index u c) d = d + c
+frame_nest (frames.Index u c) d = d + suc c
 frame_nest (frames.Call h us) d = suc d
 
 abbrev pub stack_nest : List Frame → ℕ

@@ -12,7 +12,7 @@ use std::marker::Model;
 #[derive(Drop)]
 pub struct Frames {
     items: Vec<Frame>,
-    nest: u32,
+    nest: u64,
 }
 
 impl Model for Frames {
@@ -54,7 +54,7 @@ impl Frames {
     }
 
     pub fn push(&mut self, frame: Frame) -> Result<(), AllocError>
-        requires { frame_nest frame (stack_nest self.old) < 2 ^ 32 }
+        requires { frame_nest frame (stack_nest self.old) < 2 ^ 64 }
         ensures { OnOk result (self.new ≡ frame ∷ self.old) }
     {
         let more = frame_nest(&frame);
@@ -89,7 +89,7 @@ impl Frames {
     }
 
     /// The nest of what stands behind the frames.
-    pub fn nest(&self) -> u32
+    pub fn nest(&self) -> u64
         ensures { result ≡ stack_nest self.now }
     {
         self.nest
@@ -97,11 +97,12 @@ impl Frames {
 }
 
 // What a frame adds to the nest.
-fn frame_nest(frame: &Frame) -> u32
+fn frame_nest(frame: &Frame) -> u64
     ensures { (d : ℕ) → frame_nest frame.now d ≡ d + result }
 {
     match frame {
         Frame::Prefix(_) | Frame::Group(_) | Frame::Call(_, _) => 1,
-        Frame::Infix(_, _, more) | Frame::Index(_, more) => *more,
+        Frame::Infix(_, _, more) => u64::from(*more),
+        Frame::Index(_, indices) => u64::from(*indices) + 1,
     }
 }

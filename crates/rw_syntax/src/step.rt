@@ -121,7 +121,7 @@ fn is_within(state: &State) -> bool
         State::Partial(_, stack) => stack.nest() <= 511,
         State::Has(_, _, chain, stack) => {
             let open = stack.nest();
-            open <= 512 && *chain <= 512 - open
+            open <= 512 && u64::from(*chain) <= 512 - open
         }
     }
 }
