@@ -1,8 +1,7 @@
 -- The binders that stand on the stack, from its top on.
-use Rattle.std.proofs.Common.{◌≡◌, ℕ, zero, suc, ◌+◌, ◌≤◌, true, false, List, [], ◌∷◌, length, drop, Option, Some, None, refl, sym, ap, ◌∙◌, arith, subst}
+use Rattle.std.proofs.Common.{◌≡◌, ℕ, suc, ◌+◌, ◌≤◌, true, false, List, [], ◌∷◌, length, Option, Some, None, refl, ap, ◌∙◌, arith}
 use Rattle.std.specs.Prelude.{option_map, cond}
 use Rattle.rw_syntax.specs.declared.frame.Binder.{Binder}
-use Rattle.rw_syntax.specs.declared.frame.Prefix.{Prefix}
 use Rattle.rw_syntax.specs.declared.frame.Prefix.TheVariants as prefixes
 use Rattle.rw_syntax.specs.declared.frame.Frame.{Frame}
 use Rattle.rw_syntax.specs.declared.frame.Frame.TheVariants as frames

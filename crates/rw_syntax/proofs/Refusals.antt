@@ -1,10 +1,9 @@
 -- Tokens that begin no operand, and tokens that stand behind none.
-use Rattle.std.proofs.Common.{◌≡◌, ℕ, Bool, List, Option, None, refl}
+use Rattle.std.proofs.Common.{◌≡◌, ℕ, Bool, List, None, refl}
 use Rattle.rw_syntax.specs.declared.token.Quantifier.{Quantifier}
 use Rattle.rw_syntax.specs.declared.frame.Part.{Part}
 use Rattle.rw_syntax.specs.declared.token.Token.TheVariants as tokens
 use Rattle.rw_syntax.specs.declared.frame.Frame.{Frame}
-use Rattle.rw_syntax.specs.Machine.{State}
 use Rattle.rw_syntax.specs.Steps.{begin_shut, go_on_shut}
 
 pub no_int : (wanted : ℕ) (fs : List Frame) → begin_shut wanted fs tokens.Int ≡ None
@@ -61,36 +60,36 @@ pub no_truth : (goal : ℕ) (v : Part) (n0 c : ℕ) (fs : List Frame) (b : Bool)
 unfolding go_on_shut
 no_truth goal v n0 c fs b = refl
 
-pub no_not : (goal : ℕ) (v : Part) (n0 c : ℕ) (fs : List Frame)  → go_on_shut goal v n0 c fs tokens.Not ≡ None
+pub no_not : (goal : ℕ) (v : Part) (n0 c : ℕ) (fs : List Frame) → go_on_shut goal v n0 c fs tokens.Not ≡ None
 unfolding go_on_shut
-no_not goal v n0 c fs  = refl
+no_not goal v n0 c fs = refl
 
 pub no_quantifier : (goal : ℕ) (v : Part) (n0 c : ℕ) (fs : List Frame) (q : Quantifier) → go_on_shut goal v n0 c fs (tokens.Quantifier q) ≡ None
 unfolding go_on_shut
 no_quantifier goal v n0 c fs q = refl
 
-pub no_int_behind : (goal : ℕ) (v : Part) (n0 c : ℕ) (fs : List Frame)  → go_on_shut goal v n0 c fs tokens.Int ≡ None
+pub no_int_behind : (goal : ℕ) (v : Part) (n0 c : ℕ) (fs : List Frame) → go_on_shut goal v n0 c fs tokens.Int ≡ None
 unfolding go_on_shut
-no_int_behind goal v n0 c fs  = refl
+no_int_behind goal v n0 c fs = refl
 
-pub no_array_behind : (goal : ℕ) (v : Part) (n0 c : ℕ) (fs : List Frame)  → go_on_shut goal v n0 c fs tokens.Array ≡ None
+pub no_array_behind : (goal : ℕ) (v : Part) (n0 c : ℕ) (fs : List Frame) → go_on_shut goal v n0 c fs tokens.Array ≡ None
 unfolding go_on_shut
-no_array_behind goal v n0 c fs  = refl
+no_array_behind goal v n0 c fs = refl
 
-pub no_put : (goal : ℕ) (v : Part) (n0 c : ℕ) (fs : List Frame)  → go_on_shut goal v n0 c fs tokens.Put ≡ None
+pub no_put : (goal : ℕ) (v : Part) (n0 c : ℕ) (fs : List Frame) → go_on_shut goal v n0 c fs tokens.Put ≡ None
 unfolding go_on_shut
-no_put goal v n0 c fs  = refl
+no_put goal v n0 c fs = refl
 
-pub no_open : (goal : ℕ) (v : Part) (n0 c : ℕ) (fs : List Frame)  → go_on_shut goal v n0 c fs tokens.Open ≡ None
+pub no_open : (goal : ℕ) (v : Part) (n0 c : ℕ) (fs : List Frame) → go_on_shut goal v n0 c fs tokens.Open ≡ None
 unfolding go_on_shut
-no_open goal v n0 c fs  = refl
+no_open goal v n0 c fs = refl
 
-pub no_colon_behind : (goal : ℕ) (v : Part) (n0 c : ℕ) (fs : List Frame)  → go_on_shut goal v n0 c fs tokens.Colon ≡ None
+pub no_colon_behind : (goal : ℕ) (v : Part) (n0 c : ℕ) (fs : List Frame) → go_on_shut goal v n0 c fs tokens.Colon ≡ None
 unfolding go_on_shut
-no_colon_behind goal v n0 c fs  = refl
+no_colon_behind goal v n0 c fs = refl
 
-pub no_dot_behind : (goal : ℕ) (v : Part) (n0 c : ℕ) (fs : List Frame)  → go_on_shut goal v n0 c fs tokens.Dot ≡ None
+pub no_dot_behind : (goal : ℕ) (v : Part) (n0 c : ℕ) (fs : List Frame) → go_on_shut goal v n0 c fs tokens.Dot ≡ None
 unfolding go_on_shut
-no_dot_behind goal v n0 c fs  = refl
+no_dot_behind goal v n0 c fs = refl
 
 pub ruleset stops = (no_number, no_word, no_initial, no_place, no_truth, no_not, no_quantifier, no_int_behind, no_array_behind, no_put, no_open, no_colon_behind, no_dot_behind)

@@ -1,5 +1,5 @@
 -- How the shut steps hand on to one another.
-use Rattle.std.proofs.Common.{◌≡◌, ℕ, Bool, true, false, cond, List, [], ◌∷◌, Option, Some, None, refl, sym, ap, ◌∙◌}
+use Rattle.std.proofs.Common.{◌≡◌, ℕ, true, false, cond, List, [], ◌∷◌, Some, None, refl, ap, ◌∙◌}
 use Rattle.std.specs.Prelude.{leb, option_and_then}
 use Rattle.rw_syntax.specs.declared.token.Token.{Token}
 use Rattle.rw_syntax.specs.declared.frame.Part.{Part}

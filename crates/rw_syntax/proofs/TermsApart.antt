@@ -1,5 +1,5 @@
 -- A tree of level 6 or more stands for a term, and each other one for a formula.
-use Rattle.std.proofs.Common.{◌≡◌, ℕ, ◌≤◌, ◌<◌, Bool, true, false, cond, List, [], ◌∷◌, Option, Some, None, IsTrue, refl, sym, ap, ◌∙◌, arith, true≢false}
+use Rattle.std.proofs.Common.{◌≡◌, ℕ, Bool, true, false, cond, List, [], ◌∷◌, Option, Some, None, refl, sym, ap, ◌∙◌, arith, true≢false}
 use Rattle.std.specs.Prelude.{leb}
 use Rattle.rw_terms.specs.declared.term.Term.{Term}
 use Rattle.rw_terms.specs.declared.term.Formula.{Formula}
@@ -14,7 +14,7 @@ use Rattle.rw_syntax.specs.declared.frame.Prefix.{Prefix}
 use Rattle.rw_syntax.specs.declared.frame.Prefix.TheVariants as prefixes
 use Rattle.rw_syntax.specs.declared.frame.Head.{Head}
 use Rattle.rw_syntax.specs.declared.frame.Head.TheVariants as heads
-use Rattle.rw_syntax.specs.Grammar.{Leaf, number, word, initial, place, truth, Tree, leaf, prefix, binary, group, index, call, level, level_of, prefix_level, head_level, leaf_level, shut, fits, is_upper, inner, find, bound_or, leaf_part, put_of, part, prefixed, joined, applied, values}
+use Rattle.rw_syntax.specs.Grammar.{Leaf, number, word, initial, place, truth, Tree, leaf, prefix, binary, group, index, call, level, level_of, prefix_level, head_level, leaf_level, shut, is_upper, inner, bound_or, leaf_part, put_of, part, prefixed, joined, applied, values}
 use Rattle.rw_syntax.specs.Spelling.{Spells}
 use Rattle.rw_syntax.proofs.Choices.{fits_of, le_to, lt_to, le_of, lt_of, shut_term, shut_formula}
 

@@ -21,7 +21,7 @@ use Rattle.rw_syntax.specs.declared.state.Operand.{Operand}
 pub use Rattle.rw_syntax.specs.Open.{frame_level, frame_hole, made, frame_chain, hole, top_level, frame_scope, scope, frame_nest, stack_nest}
 pub use Rattle.rw_syntax.specs.declared.state.State.TheVariants.{Wants as wants, Partial as partial, Worded as worded, Has as has}
 use Rattle.rw_syntax.specs.declared.frame.Partial.TheVariants as partials
-use Rattle.rw_syntax.specs.Grammar.{Leaf, number, word, initial, place, truth, leaf_level, leaf_part, level_of, left_of, right_of, prefix_level, head_level, shut, fits, inner, is_known, is_length, is_binder, takes, prefixed, joined, read_at, applied, as_term, adds}
+use Rattle.rw_syntax.specs.Grammar.{Leaf, number, word, initial, place, truth, leaf_level, leaf_part, level_of, left_of, head_level, shut, fits, is_known, is_length, is_binder, takes, read_at, applied, as_term, adds}
 
 abbrev pub partial_nest : Partial → ℕ → ℕ
 partial_nest (partials.Naming q) d = suc d

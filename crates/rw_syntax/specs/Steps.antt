@@ -1,6 +1,5 @@
 -- The steps of the machine, shut: code that only hands on need not see them.
-use Rattle.std.specs.Prelude.{ℕ, List, Option, ◌∷◌, cond}
-use Rattle.rw_syntax.specs.declared.token.Infix.{Infix}
+use Rattle.std.specs.Prelude.{ℕ, List, Option}
 use Rattle.rw_syntax.specs.declared.token.Token.{Token}
 use Rattle.rw_syntax.specs.declared.frame.Part.{Part}
 use Rattle.rw_syntax.specs.declared.frame.Frame.{Frame}

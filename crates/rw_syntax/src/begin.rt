@@ -39,19 +39,10 @@ fn one_term(
 }
 
 #[tactic(auto, unfolding(crate::specs::Steps::begin_shut))]
-fn truth(
-    alloc: Global,
-    wanted: u8,
-    value: bool,
-    stack: Frames,
-) -> Result<Option<State>, AllocError>
+fn truth(alloc: Global, wanted: u8, value: bool, stack: Frames) -> Result<Option<State>, AllocError>
     ensures { IfOk result (λ o. o ≡ begin_shut wanted stack (tokens.Truth value)) }
 {
-    let formula = if value {
-        Formula::True
-    } else {
-        Formula::False
-    };
+    let formula = if value { Formula::True } else { Formula::False };
     let part = build::formula(alloc, formula)?;
     Ok(begun(wanted, 5, State::Has(part, 5, 0, stack)))
 }
@@ -84,12 +75,7 @@ fn negation(wanted: u8, mut stack: Frames) -> Result<Option<State>, AllocError>
 }
 
 #[tactic(auto, unfolding(crate::specs::Steps::begin_shut))]
-fn number(
-    alloc: Global,
-    wanted: u8,
-    n: u128,
-    stack: Frames,
-) -> Result<Option<State>, AllocError>
+fn number(alloc: Global, wanted: u8, n: u128, stack: Frames) -> Result<Option<State>, AllocError>
     ensures { IfOk result (λ o. o ≡ begin_shut wanted stack (tokens.Number n)) }
 {
     if n > 170141183460469231731687303715884105727 {
@@ -111,12 +97,7 @@ fn initial(
 }
 
 #[tactic(auto, unfolding(crate::specs::Steps::begin_shut))]
-fn place(
-    alloc: Global,
-    wanted: u8,
-    n: u128,
-    stack: Frames,
-) -> Result<Option<State>, AllocError>
+fn place(alloc: Global, wanted: u8, n: u128, stack: Frames) -> Result<Option<State>, AllocError>
     requires { stack_nest stack ≤ 512 }
     ensures { IfOk result (λ o. o ≡ begin_shut wanted stack (tokens.Place n)) }
 {

@@ -94,11 +94,7 @@ fn dotted(
 }
 
 #[tactic(auto, unfolding(crate::specs::Steps::partial_shut))]
-fn putting(
-    alloc: Global,
-    mut stack: Frames,
-    token: Token,
-) -> Result<Option<State>, AllocError>
+fn putting(alloc: Global, mut stack: Frames, token: Token) -> Result<Option<State>, AllocError>
     requires { stack_nest stack ≤ 512 }
     ensures { IfOk result (λ o. o ≡ partial_shut partials.Putting stack token) }
 {

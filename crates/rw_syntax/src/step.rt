@@ -156,12 +156,14 @@ fn finish_operand(alloc: Global, goal: u8, operand: Operand) -> Result<Option<Pa
     ensures { IfOk result (λ o. o ≡ finish_shut goal (has_of operand)) }
 {
     match ended(alloc, 1, operand)? {
-        Some(Operand {
-            part,
-            level,
-            chain: _,
-            stack,
-        }) => {
+        Some(
+            Operand {
+                part,
+                level,
+                chain: _,
+                stack,
+            },
+        ) => {
             if stack.is_empty() && fits(goal, level) {
                 Ok(Some(part))
             } else {
