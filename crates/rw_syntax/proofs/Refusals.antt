@@ -1,10 +1,12 @@
--- Tokens that begin no operand, and tokens that stand behind none.
-use Rattle.std.proofs.Common.{◌≡◌, ℕ, Bool, List, None, refl}
+-- What a token is to the machine where an operand is wanted, and behind an operand.
+use Rattle.std.proofs.Common.{◌≡◌, ℕ, Bool, List, Some, None, refl}
 use Rattle.rw_syntax.specs.declared.token.Quantifier.{Quantifier}
 use Rattle.rw_syntax.specs.declared.frame.Part.{Part}
 use Rattle.rw_syntax.specs.declared.token.Token.TheVariants as tokens
 use Rattle.rw_syntax.specs.declared.frame.Frame.{Frame}
-use Rattle.rw_syntax.specs.Steps.{begin_shut, go_on_shut}
+use Rattle.rw_syntax.specs.declared.frame.Partial.TheVariants as partials
+use Rattle.rw_syntax.specs.declared.state.State.TheVariants as states
+use Rattle.rw_syntax.specs.Steps.{begin_shut, close_shut, close_square_shut, comma_shut, open_square_shut, go_on_shut}
 
 pub no_int : (wanted : ℕ) (fs : List Frame) → begin_shut wanted fs tokens.Int ≡ None
 unfolding begin_shut
@@ -38,7 +40,15 @@ pub no_dot : (wanted : ℕ) (fs : List Frame) → begin_shut wanted fs tokens.Do
 unfolding begin_shut
 no_dot wanted fs = refl
 
-pub ruleset refusals = (no_int, no_array, no_close, no_opensquare, no_closesquare, no_comma, no_colon, no_dot)
+pub begin_word : (wanted : ℕ) (fs : List Frame) (w : List ℕ) → begin_shut wanted fs (tokens.Word w) ≡ Some (states.Worded w fs)
+unfolding begin_shut
+begin_word wanted fs w = refl
+
+pub begin_put : (wanted : ℕ) (fs : List Frame) → begin_shut wanted fs tokens.Put ≡ Some (states.Partial partials.Putting fs)
+unfolding begin_shut
+begin_put wanted fs = refl
+
+pub ruleset begins = (begin_word, begin_put, no_int, no_array, no_close, no_opensquare, no_closesquare, no_comma, no_colon, no_dot)
 
 pub no_number : (goal : ℕ) (v : Part) (n0 c : ℕ) (fs : List Frame) (n : ℕ) → go_on_shut goal v n0 c fs (tokens.Number n) ≡ None
 unfolding go_on_shut
@@ -92,4 +102,20 @@ pub no_dot_behind : (goal : ℕ) (v : Part) (n0 c : ℕ) (fs : List Frame) → g
 unfolding go_on_shut
 no_dot_behind goal v n0 c fs = refl
 
-pub ruleset stops = (no_number, no_word, no_initial, no_place, no_truth, no_not, no_quantifier, no_int_behind, no_array_behind, no_put, no_open, no_colon_behind, no_dot_behind)
+pub go_close : (goal : ℕ) (v : Part) (n0 c : ℕ) (fs : List Frame) → go_on_shut goal v n0 c fs tokens.Close ≡ close_shut v n0 c fs
+unfolding go_on_shut close_shut
+go_close goal v n0 c fs = refl
+
+pub go_close_square : (goal : ℕ) (v : Part) (n0 c : ℕ) (fs : List Frame) → go_on_shut goal v n0 c fs tokens.CloseSquare ≡ close_square_shut v n0 c fs
+unfolding go_on_shut close_square_shut
+go_close_square goal v n0 c fs = refl
+
+pub go_comma : (goal : ℕ) (v : Part) (n0 c : ℕ) (fs : List Frame) → go_on_shut goal v n0 c fs tokens.Comma ≡ comma_shut v n0 c fs
+unfolding go_on_shut comma_shut
+go_comma goal v n0 c fs = refl
+
+pub go_open_square : (goal : ℕ) (v : Part) (n0 c : ℕ) (fs : List Frame) → go_on_shut goal v n0 c fs tokens.OpenSquare ≡ open_square_shut v n0 c fs
+unfolding go_on_shut open_square_shut
+go_open_square goal v n0 c fs = refl
+
+pub ruleset goes = (go_close, go_close_square, go_comma, go_open_square, no_number, no_word, no_initial, no_place, no_truth, no_not, no_quantifier, no_int_behind, no_array_behind, no_put, no_open, no_colon_behind, no_dot_behind)

@@ -48,14 +48,6 @@ fn truth(alloc: Global, wanted: u8, value: bool, stack: Frames) -> Result<Option
 }
 
 #[tactic(auto, unfolding(crate::specs::Steps::begin_shut))]
-fn word(wanted: u8, name: Name, stack: Frames) -> Option<State>
-    ensures { result ≡ begin_shut wanted stack (tokens.Word name) }
-{
-    let _ = wanted;
-    Some(State::Worded(name, stack))
-}
-
-#[tactic(auto, unfolding(crate::specs::Steps::begin_shut))]
 fn quantifier(wanted: u8, q: Quantifier, stack: Frames) -> Option<State>
     ensures { result ≡ begin_shut wanted stack (tokens.Quantifier q) }
 {
@@ -133,16 +125,8 @@ fn group(wanted: u8, mut stack: Frames) -> Result<Option<State>, AllocError>
     Ok(Some(State::Wants(stack)))
 }
 
-#[tactic(auto, unfolding(crate::specs::Steps::begin_shut))]
-fn put(wanted: u8, stack: Frames) -> Option<State>
-    ensures { result ≡ begin_shut wanted stack tokens.Put }
-{
-    let _ = wanted;
-    Some(State::Partial(Partial::Putting, stack))
-}
-
 /// The state behind a token where an operand of a level is wanted.
-#[tactic(auto, using(crate::proofs::Refusals::refusals))]
+#[tactic(auto, using(crate::proofs::Refusals::begins))]
 pub fn begin(
     alloc: Global,
     wanted: u8,
@@ -154,14 +138,14 @@ pub fn begin(
 {
     match token {
         Token::Number(n) => number(alloc, wanted, n, stack),
-        Token::Word(name) => Ok(word(wanted, name, stack)),
+        Token::Word(name) => Ok(Some(State::Worded(name, stack))),
         Token::Initial(name) => initial(alloc, wanted, name, stack),
         Token::Place(n) => place(alloc, wanted, n, stack),
         Token::Truth(value) => truth(alloc, wanted, value, stack),
         Token::Infix(op) => minus(wanted, op, stack),
         Token::Not => negation(wanted, stack),
         Token::Quantifier(q) => Ok(quantifier(wanted, q, stack)),
-        Token::Put => Ok(put(wanted, stack)),
+        Token::Put => Ok(Some(State::Partial(Partial::Putting, stack))),
         Token::Open => group(wanted, stack),
         Token::Int => Ok(None),
         Token::Array => Ok(None),

@@ -3,7 +3,7 @@
 ghost use Rattle.std.specs.Prelude.{◌≡◌, ◌≤◌, ◌+◌, ◌∷◌, ℕ, IfOk, IsTrue, length, cond, leb, Some, None, option_and_then};
 ghost use Rattle.rw_syntax.specs.Grammar.{adds, takes};
 ghost use Rattle.rw_syntax.specs.Machine.{nest, has_of, stack_nest, hole, extended, closed_frame, closed, indexed, listed_frame, listed, expects, ended};
-ghost use Rattle.rw_syntax.specs.Steps.{go_on_shut};
+ghost use Rattle.rw_syntax.specs.Steps.{close_shut, close_square_shut, comma_shut, open_square_shut, go_on_shut};
 ghost use Rattle.rw_syntax.specs.declared.token.Token.TheVariants as tokens;
 ghost use Rattle.rw_syntax.specs.declared.frame.Frame.TheVariants as frames;
 
@@ -200,48 +200,44 @@ fn operator(
     }
 }
 
-#[tactic(auto, unfolding(crate::specs::Steps::go_on_shut))]
-fn close(alloc: Global, goal: u8, operand: Operand) -> Result<Option<State>, AllocError>
+#[tactic(auto, unfolding(crate::specs::Steps::close_shut))]
+fn close(alloc: Global, operand: Operand) -> Result<Option<State>, AllocError>
     requires { nest (has_of operand) ≤ 512 }
-    ensures { IfOk result (λ o. o ≡ go_on_shut goal operand.part operand.level operand.chain operand.stack tokens.Close) }
+    ensures { IfOk result (λ o. o ≡ close_shut operand.part operand.level operand.chain operand.stack) }
 {
-    let _ = goal;
     match ended(alloc, 1, operand)? {
         Some(operand) => closed(alloc, operand),
         None => Ok(None),
     }
 }
 
-#[tactic(auto, unfolding(crate::specs::Steps::go_on_shut))]
-fn close_square(alloc: Global, goal: u8, operand: Operand) -> Result<Option<State>, AllocError>
+#[tactic(auto, unfolding(crate::specs::Steps::close_square_shut))]
+fn close_square(alloc: Global, operand: Operand) -> Result<Option<State>, AllocError>
     requires { nest (has_of operand) ≤ 512 }
-    ensures { IfOk result (λ o. o ≡ go_on_shut goal operand.part operand.level operand.chain operand.stack tokens.CloseSquare) }
+    ensures { IfOk result (λ o. o ≡ close_square_shut operand.part operand.level operand.chain operand.stack) }
 {
-    let _ = goal;
     match ended(alloc, 1, operand)? {
         Some(operand) => indexed(alloc, operand),
         None => Ok(None),
     }
 }
 
-#[tactic(auto, unfolding(crate::specs::Steps::go_on_shut))]
-fn comma(alloc: Global, goal: u8, operand: Operand) -> Result<Option<State>, AllocError>
+#[tactic(auto, unfolding(crate::specs::Steps::comma_shut))]
+fn comma(alloc: Global, operand: Operand) -> Result<Option<State>, AllocError>
     requires { nest (has_of operand) ≤ 512 }
-    ensures { IfOk result (λ o. o ≡ go_on_shut goal operand.part operand.level operand.chain operand.stack tokens.Comma) }
+    ensures { IfOk result (λ o. o ≡ comma_shut operand.part operand.level operand.chain operand.stack) }
 {
-    let _ = goal;
     match ended(alloc, 1, operand)? {
         Some(operand) => listed(alloc, operand),
         None => Ok(None),
     }
 }
 
-#[tactic(auto, unfolding(crate::specs::Steps::go_on_shut))]
-fn open_square(goal: u8, operand: Operand) -> Result<Option<State>, AllocError>
+#[tactic(auto, unfolding(crate::specs::Steps::open_square_shut))]
+fn open_square(operand: Operand) -> Result<Option<State>, AllocError>
     requires { nest (has_of operand) ≤ 512 }
-    ensures { IfOk result (λ o. o ≡ go_on_shut goal operand.part operand.level operand.chain operand.stack tokens.OpenSquare) }
+    ensures { IfOk result (λ o. o ≡ open_square_shut operand.part operand.level operand.chain operand.stack) }
 {
-    let _ = goal;
     let Operand {
         part,
         level,
@@ -256,7 +252,7 @@ fn open_square(goal: u8, operand: Operand) -> Result<Option<State>, AllocError>
 }
 
 /// The state behind a token where an operand was read.
-#[tactic(auto, using(crate::proofs::Refusals::stops))]
+#[tactic(auto, using(crate::proofs::Refusals::goes))]
 pub fn go_on(
     alloc: Global,
     goal: u8,
@@ -268,10 +264,10 @@ pub fn go_on(
 {
     match token {
         Token::Infix(op) => operator(alloc, goal, operand, op),
-        Token::Close => close(alloc, goal, operand),
-        Token::CloseSquare => close_square(alloc, goal, operand),
-        Token::Comma => comma(alloc, goal, operand),
-        Token::OpenSquare => open_square(goal, operand),
+        Token::Close => close(alloc, operand),
+        Token::CloseSquare => close_square(alloc, operand),
+        Token::Comma => comma(alloc, operand),
+        Token::OpenSquare => open_square(operand),
         Token::Number(_) => Ok(None),
         Token::Word(_) => Ok(None),
         Token::Initial(_) => Ok(None),

@@ -5,6 +5,7 @@ ghost use Rattle.rw_syntax.specs.Grammar.{as_term, as_formula, prefixed, joined,
 ghost use Rattle.rw_syntax.specs.Machine.{made};
 ghost use Rattle.rw_syntax.specs.declared.frame.Part.TheVariants as parts;
 ghost use Rattle.rw_syntax.specs.declared.token.Infix.TheVariants as infixes;
+ghost use Rattle.rw_syntax.specs.declared.frame.Prefix.TheVariants as prefixes;
 
 use crate::frame::{Frame, Head, Part, Prefix};
 use crate::table::is_upper;
@@ -56,10 +57,7 @@ pub fn prefixed(alloc: Global, prefix: Prefix, part: Part) -> Result<Part, Alloc
             let operand = as_term(alloc, part)?;
             term(alloc, Term::Neg(operand))
         }
-        Prefix::Not => {
-            let operand = as_formula(alloc, part)?;
-            formula(alloc, Formula::Not(operand))
-        }
+        Prefix::Not => negated(alloc, part),
         Prefix::Bind(quantifier, _, sort) => {
             let body = as_formula(alloc, part)?;
             match quantifier {
@@ -95,18 +93,15 @@ pub fn joined(alloc: Global, op: Infix, a: Part, b: Part) -> Result<Part, AllocE
     ensures { IfOk result (λ v. v ≡ joined op a b) }
 {
     match op {
-        Infix::Implies => {
-            let (a, b) = two_formulas(alloc, a, b)?;
-            formula(alloc, Formula::Imp(a, b))
-        }
-        Infix::Or => {
-            let (a, b) = two_formulas(alloc, a, b)?;
-            formula(alloc, Formula::Or(a, b))
-        }
-        Infix::And => {
-            let (a, b) = two_formulas(alloc, a, b)?;
-            formula(alloc, Formula::And(a, b))
-        }
+        Infix::Implies => implication(alloc, a, b),
+        Infix::Or => disjunction(alloc, a, b),
+        Infix::And => conjunction(alloc, a, b),
+        Infix::Equal => equation(alloc, a, b),
+        Infix::Unequal => negated(alloc, equation(alloc, a, b)?),
+        Infix::Less => less(alloc, a, b),
+        Infix::AtMost => at_most(alloc, a, b),
+        Infix::Greater => less(alloc, b, a),
+        Infix::AtLeast => at_most(alloc, b, a),
         Infix::Plus => {
             let (a, b) = two_terms(alloc, a, b)?;
             term(alloc, Term::Add(a, b))
@@ -127,38 +122,56 @@ pub fn joined(alloc: Global, op: Infix, a: Part, b: Part) -> Result<Part, AllocE
             let (a, b) = two_terms(alloc, a, b)?;
             term(alloc, Term::Mod(a, b))
         }
-        Infix::Equal => {
-            let (a, b) = two_terms(alloc, a, b)?;
-            formula(alloc, Formula::Eq(a.into_inner(), b.into_inner()))
-        }
-        Infix::Unequal => {
-            let (a, b) = two_terms(alloc, a, b)?;
-            unequal(alloc, a, b)
-        }
-        Infix::Less => {
-            let (a, b) = two_terms(alloc, a, b)?;
-            formula(alloc, Formula::Less(a.into_inner(), b.into_inner()))
-        }
-        Infix::AtMost => {
-            let (a, b) = two_terms(alloc, a, b)?;
-            formula(alloc, Formula::AtMost(a.into_inner(), b.into_inner()))
-        }
-        Infix::Greater => {
-            let (a, b) = two_terms(alloc, a, b)?;
-            formula(alloc, Formula::Less(b.into_inner(), a.into_inner()))
-        }
-        Infix::AtLeast => {
-            let (a, b) = two_terms(alloc, a, b)?;
-            formula(alloc, Formula::AtMost(b.into_inner(), a.into_inner()))
-        }
     }
 }
 
-fn unequal(alloc: Global, a: Boxed<Term>, b: Boxed<Term>) -> Result<Part, AllocError>
-    ensures { IfOk result (λ v. v ≡ joined infixes.Unequal (parts.Term a) (parts.Term b)) }
+fn implication(alloc: Global, a: Part, b: Part) -> Result<Part, AllocError>
+    ensures { IfOk result (λ v. v ≡ joined infixes.Implies a b) }
 {
-    let equal = Boxed::new(alloc, Formula::Eq(a.into_inner(), b.into_inner()))?;
-    formula(alloc, Formula::Not(equal))
+    let (a, b) = two_formulas(alloc, a, b)?;
+    formula(alloc, Formula::Imp(a, b))
+}
+
+fn disjunction(alloc: Global, a: Part, b: Part) -> Result<Part, AllocError>
+    ensures { IfOk result (λ v. v ≡ joined infixes.Or a b) }
+{
+    let (a, b) = two_formulas(alloc, a, b)?;
+    formula(alloc, Formula::Or(a, b))
+}
+
+fn conjunction(alloc: Global, a: Part, b: Part) -> Result<Part, AllocError>
+    ensures { IfOk result (λ v. v ≡ joined infixes.And a b) }
+{
+    let (a, b) = two_formulas(alloc, a, b)?;
+    formula(alloc, Formula::And(a, b))
+}
+
+fn equation(alloc: Global, a: Part, b: Part) -> Result<Part, AllocError>
+    ensures { IfOk result (λ v. v ≡ joined infixes.Equal a b) }
+{
+    let (a, b) = two_terms(alloc, a, b)?;
+    formula(alloc, Formula::Eq(a.into_inner(), b.into_inner()))
+}
+
+fn negated(alloc: Global, part: Part) -> Result<Part, AllocError>
+    ensures { IfOk result (λ v. v ≡ prefixed prefixes.Not part) }
+{
+    let operand = as_formula(alloc, part)?;
+    formula(alloc, Formula::Not(operand))
+}
+
+fn less(alloc: Global, a: Part, b: Part) -> Result<Part, AllocError>
+    ensures { IfOk result (λ v. v ≡ joined infixes.Less a b) }
+{
+    let (a, b) = two_terms(alloc, a, b)?;
+    formula(alloc, Formula::Less(a.into_inner(), b.into_inner()))
+}
+
+fn at_most(alloc: Global, a: Part, b: Part) -> Result<Part, AllocError>
+    ensures { IfOk result (λ v. v ≡ joined infixes.AtMost a b) }
+{
+    let (a, b) = two_terms(alloc, a, b)?;
+    formula(alloc, Formula::AtMost(a.into_inner(), b.into_inner()))
 }
 
 /// The element of an array at an index.
