@@ -5,3 +5,6 @@ pub mod Endings
 pub mod Lines
 pub mod Parts
 pub mod Made
+pub mod Shorter
+pub mod Classes
+pub mod Expressions

@@ -1,8 +1,10 @@
 //! What holds of the grammar and of reading.
 
-ghost use Rattle.std.specs.Prelude.{◌≡◌, ℕ, List, ◌↔◌};
+ghost use Rattle.std.specs.Prelude.{◌≡◌, ℕ, ◌≤◌, List, ◌↔◌};
+ghost use Rattle.rw_syntax.specs.declared.frame.Part.{Part};
 ghost use Rattle.rw_reader.specs.declared.request.Request.{Request};
 ghost use Rattle.rw_reader.specs.Tokens.{Token};
+ghost use Rattle.rw_reader.specs.Expressions.{TokensSpell, TextSpells, IsFaultOf};
 ghost use Rattle.rw_reader.specs.Reading.{Spells, LineSpells, IsFault, reading, reads, fault};
 
 /// A line is read as a request exactly where its tokens spell it, and else has its one fault.
@@ -14,4 +16,16 @@ pub fn reading_is_the_grammar()
 /// No tokens spell two requests.
 pub fn one_request()
     ensures { (ts : List Token) (r q : Request) → Spells ts r → Spells ts q → r ≡ q }
+{}
+
+/// No tokens and no text spell two terms or two formulas: `goal` is 6 for terms and 1 for formulas.
+pub fn one_value()
+    ensures tokens { (goal : ℕ) (ts : List Token) (v w : Part) → goal ≤ 9 → TokensSpell goal ts v → TokensSpell goal ts w → v ≡ w }
+    ensures texts { (goal : ℕ) (text : List ℕ) (v w : Part) → goal ≤ 9 → TextSpells goal text v → TextSpells goal text w → v ≡ w }
+{}
+
+/// A text that spells a term or a formula has no fault, and each other text at most one.
+pub fn one_fault()
+    ensures apart { (goal : ℕ) (text : List ℕ) (v : Part) (o : ℕ) → TextSpells goal text v → ¬ (IsFaultOf goal text o) }
+    ensures one { (goal : ℕ) (text : List ℕ) (o p : ℕ) → IsFaultOf goal text o → IsFaultOf goal text p → o ≡ p }
 {}

@@ -1,10 +1,13 @@
-//! Reads requests: exactly the grammar, with the exact offset of a fault.
+//! Reads requests, terms and formulas: exactly the grammar, with the exact offset of a fault.
 #![tactic(auto)]
 
+mod class;
+mod expression;
 pub mod laws;
 mod reading;
 pub mod request;
 mod taking;
 pub mod token;
 
+pub use expression::{read_formula, read_term};
 pub use reading::read_request;

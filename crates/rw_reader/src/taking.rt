@@ -14,7 +14,7 @@ use rw_terms::term::{Formula, Term};
 use std::alloc::Global;
 
 /// The fault at a place.
-fn fault(at: usize) -> ReadError
+pub fn fault(at: usize) -> ReadError
     requires { at ≤ 65536 }
     ensures { result ≡ read_error.Syntax at }
 {

@@ -1,0 +1,14 @@
+pub mod Choices
+pub mod Operators
+pub mod Deep
+pub mod Binders
+pub mod Refusals
+pub mod Shut
+pub mod Stands
+pub mod Sound
+pub mod After
+pub mod Goes
+pub mod Reading
+pub mod Exact
+pub mod TermsApart
+pub mod Endings
