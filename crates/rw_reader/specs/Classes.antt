@@ -24,6 +24,7 @@ abbrev pub mark_in : List (List ℕ × Mark) → List ℕ → Option Mark
 mark_in [] w = None
 mark_in (k ∷ ks) w = cond (bytes_eq w k.0) (Some k.1) (mark_in ks w)
 
+-- the class of a mark
 abbrev pub mark_class : Mark → Class
 mark_class (marks.Infix op) = classes.Infix op
 mark_class (marks.Truth b) = classes.Truth b
@@ -48,10 +49,12 @@ shorter w = take (length w - 1) w
 unfoldable pub name_class : List ℕ → Option Class
 name_class w = cond (is_name w) (Some (classes.Word w)) (cond (ends_with_0 w && is_name (shorter w)) (Some (classes.Initial (shorter w))) None)
 
+-- a mark, or else a name
 abbrev pub class_or : List ℕ → Option Mark → Option Class
 class_or w None = name_class w
 class_or w (Some m) = Some (mark_class m)
 
+-- what a word or a symbol is
 unfoldable pub text_class : List ℕ → Option Class
 text_class w = class_or w (mark_in mark_texts w)
 

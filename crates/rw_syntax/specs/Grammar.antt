@@ -24,6 +24,7 @@ use Rattle.rw_syntax.specs.declared.frame.Prefix.TheVariants as prefixes
 use Rattle.rw_syntax.specs.declared.frame.Head.{Head}
 use Rattle.rw_syntax.specs.declared.frame.Head.TheVariants as heads
 
+-- an operand of one token
 pub data Leaf : Type 0 where
   number : ℕ → Leaf
   word : List ℕ → Leaf
@@ -32,6 +33,7 @@ pub data Leaf : Type 0 where
   truth : Bool → Leaf
 
 mutual
+  -- a way to read a text
   pub data Tree : Type 0 where
     leaf : Leaf → Tree
     prefix : Prefix → Tree → Tree
@@ -102,6 +104,7 @@ prefix_level prefixes.Minus = 8
 prefix_level prefixes.Not = 4
 prefix_level (prefixes.Bind q b s) = 1
 
+-- whether a word begins with an upper-case letter
 abbrev pub is_upper : List ℕ → Bool
 is_upper w = leb (slice_index w 0) 90
 
@@ -114,6 +117,7 @@ head_level (heads.Named w) = cond (is_upper w) 5 9
 abbrev pub shut : ℕ → ℕ
 shut n = cond (leb 6 n) 9 5
 
+-- `true` and `false` are atoms, every other leaf is a primary
 abbrev pub leaf_level : Leaf → ℕ
 leaf_level (number n) = 9
 leaf_level (word w) = 9
@@ -121,6 +125,7 @@ leaf_level (initial w) = 9
 leaf_level (place n) = 9
 leaf_level (truth b) = 5
 
+-- the level of a tree is that of its outermost part
 abbrev pub level : Tree → ℕ
 level (leaf l) = leaf_level l
 level (prefix p t) = prefix_level p
@@ -135,20 +140,24 @@ fits wanted n = cond (leb wanted n) (cond (leb 6 wanted) true (ltb n 6)) false
 
 -- names in scope, the innermost first
 
+-- whether two binders have one name
 abbrev pub same_binder : Binder → Binder → Bool
 same_binder (binders.Named a) (binders.Named b) = bytes_eq a b
 same_binder (binders.Named a) (binders.Numbered b) = false
 same_binder (binders.Numbered a) (binders.Named b) = false
 same_binder (binders.Numbered a) (binders.Numbered b) = eqb a b
 
+-- how many binders stand between, the innermost of the name being meant
 abbrev pub find : Binder → List Binder → Option ℕ
 find b [] = None
 find b (c ∷ cs) = cond (same_binder b c) (Some 0) (option_map suc (find b cs))
 
+-- whether there is one
 abbrev pub is_some : {A : Type 0} → Option A → Bool
 is_some None = false
 is_some (Some x) = true
 
+-- the names in scope behind a prefix
 abbrev pub inner : Prefix → List Binder → List Binder
 inner prefixes.Minus env = env
 inner prefixes.Not env = env
@@ -162,9 +171,11 @@ is_known env (initial w) = true
 is_known env (place n) = is_some (find (binders.Numbered n) env)
 is_known env (truth b) = true
 
+-- the lengths of arrays, 1 to 1024
 abbrev pub is_length : ℕ → Bool
 is_length n = leb 1 n && leb n 1024
 
+-- whether a sort may be written
 abbrev pub is_sort : Sort → Bool
 is_sort sorts.Int = true
 is_sort (sorts.Array n) = is_length n
@@ -174,11 +185,13 @@ abbrev pub is_binder : Binder → Bool
 is_binder (binders.Named w) = not (is_upper w)
 is_binder (binders.Numbered n) = true
 
+-- whether a prefix may be written
 abbrev pub is_prefix : Prefix → Bool
 is_prefix prefixes.Minus = true
 is_prefix prefixes.Not = true
 is_prefix (prefixes.Bind q b s) = cond (is_binder b) (is_sort s) false
 
+-- how many terms there are
 abbrev pub count : Trees → ℕ
 count none = 0
 count (more ts t) = suc (count ts)
@@ -203,6 +216,7 @@ abbrev mutual
 
 -- what a tree is written as
 
+-- the token of a leaf
 abbrev pub leaf_token : Leaf → Token
 leaf_token (number n) = tokens.Number n
 leaf_token (word w) = tokens.Word w
@@ -210,24 +224,29 @@ leaf_token (initial w) = tokens.Initial w
 leaf_token (place n) = tokens.Place n
 leaf_token (truth b) = tokens.Truth b
 
+-- the token of a binder
 abbrev pub binder_token : Binder → Token
 binder_token (binders.Named w) = tokens.Word w
 binder_token (binders.Numbered n) = tokens.Place n
 
+-- `int`, or `array` and the length
 abbrev pub sort_text : Sort → List Token
 sort_text sorts.Int = tokens.Int ∷ []
 sort_text (sorts.Array n) = tokens.Array ∷ tokens.Number n ∷ []
 
+-- `-`, `not`, or a quantifier with its binder, its sort and a dot
 abbrev pub prefix_text : Prefix → List Token
 prefix_text prefixes.Minus = tokens.Infix infixes.Minus ∷ []
 prefix_text prefixes.Not = tokens.Not ∷ []
 prefix_text (prefixes.Bind q b s) = tokens.Quantifier q ∷ binder_token b ∷ tokens.Colon ∷ sort_text s ++ tokens.Dot ∷ []
 
+-- the token of a head
 abbrev pub head_token : Head → Token
 head_token heads.Put = tokens.Put
 head_token (heads.Named w) = tokens.Word w
 
 abbrev mutual
+  -- the tokens of a tree
   pub text : Tree → List Token
   text (leaf l) = leaf_token l ∷ []
   text (prefix p t) = prefix_text p ++ text t
@@ -243,13 +262,16 @@ abbrev mutual
 
 -- what a tree stands for
 
+-- an upper-case word is a constant, a lower-case one a variable
 abbrev pub named : List ℕ → Term
 named w = cond (is_upper w) (roll-Term (Term-F.Const w)) (roll-Term (Term-F.Var w))
 
+-- the binder that was found, or else this term
 abbrev pub bound_or : Term → Option ℕ → Part
 bound_or t None = parts.Term t
 bound_or t (Some k) = parts.Term (roll-Term (Term-F.Bound k))
 
+-- a word is a binder where it is bound
 abbrev pub leaf_part : List Binder → Leaf → Part
 leaf_part env (number n) = parts.Term (roll-Term (Term-F.Lit (pos n)))
 leaf_part env (word w) = bound_or (named w) (find (binders.Named w) env)
@@ -258,20 +280,24 @@ leaf_part env (place n) = bound_or (roll-Term (Term-F.Lit (pos 0))) (find (binde
 leaf_part env (truth true) = parts.Formula (roll-Formula Formula-F.True)
 leaf_part env (truth false) = parts.Formula (roll-Formula Formula-F.False)
 
+-- the term that a part is; the grammar asks it of no formula
 abbrev pub as_term : Part → Term
 as_term (parts.Term t) = t
 as_term (parts.Formula f) = roll-Term (Term-F.Lit (pos 0))
 
+-- the formula that a part is; the grammar asks it of no term
 abbrev pub as_formula : Part → Formula
 as_formula (parts.Term t) = roll-Formula Formula-F.True
 as_formula (parts.Formula f) = f
 
+-- what a prefix makes of its operand
 abbrev pub prefixed : Prefix → Part → Part
 prefixed prefixes.Minus v = parts.Term (roll-Term (Term-F.Neg (as_term v)))
 prefixed prefixes.Not v = parts.Formula (roll-Formula (Formula-F.Not (as_formula v)))
 prefixed (prefixes.Bind quantifiers.All b s) v = parts.Formula (roll-Formula (Formula-F.All s (as_formula v)))
 prefixed (prefixes.Bind quantifiers.Any b s) v = parts.Formula (roll-Formula (Formula-F.Any s (as_formula v)))
 
+-- what an operator makes of its operands
 abbrev pub joined : Infix → Part → Part → Part
 joined infixes.Equal a b = parts.Formula (roll-Formula (Formula-F.Eq (as_term a) (as_term b)))
 joined infixes.Unequal a b = parts.Formula (roll-Formula (Formula-F.Not (roll-Formula (Formula-F.Eq (as_term a) (as_term b)))))
@@ -288,18 +314,22 @@ joined infixes.Implies a b = parts.Formula (roll-Formula (Formula-F.Imp (as_form
 joined infixes.Or a b = parts.Formula (roll-Formula (Formula-F.Or (as_formula a) (as_formula b)))
 joined infixes.And a b = parts.Formula (roll-Formula (Formula-F.And (as_formula a) (as_formula b)))
 
+-- the element of an array at an index
 abbrev pub read_at : Part → Part → Part
 read_at a i = parts.Term (roll-Term (Term-F.Read (as_term a) (as_term i)))
 
+-- an array with an element put at an index
 abbrev pub put_of : List Term → Term → Part
 put_of (a ∷ i ∷ []) e = parts.Term (roll-Term (Term-F.Put a i e))
 put_of ts e = parts.Term e
 
+-- a head with the terms before the last one and the last one
 abbrev pub applied : Head → List Term → Part → Part
 applied heads.Put ts v = put_of ts (as_term v)
 applied (heads.Named w) ts v = cond (is_upper w) (parts.Formula (roll-Formula (Formula-F.App w (ts ++ as_term v ∷ [])))) (parts.Term (roll-Term (Term-F.Fun w (ts ++ as_term v ∷ []))))
 
 abbrev mutual
+  -- the term or the formula of a tree, under the names in scope
   pub part : List Binder → Tree → Part
   part env (leaf l) = leaf_part env l
   part env (prefix p t) = prefixed p (part (inner p env) t)
@@ -308,6 +338,7 @@ abbrev mutual
   part env (index t u) = read_at (part env t) (part env u)
   part env (call h ts t) = applied h (values env ts) (part env t)
 
+  -- the terms of a list
   pub values : List Binder → Trees → List Term
   values env none = []
   values env (more ts t) = values env ts ++ as_term (part env t) ∷ []
@@ -333,6 +364,7 @@ adds infixes.Times n c = cond (eqb n 7) (suc c) 1
 adds infixes.Div n c = cond (eqb n 7) (suc c) 1
 adds infixes.Mod n c = cond (eqb n 7) (suc c) 1
 
+-- the left-associating operators or the indices of a tree's outermost chain
 abbrev pub chain : Tree → ℕ
 chain (leaf l) = 0
 chain (prefix p t) = 0
@@ -341,11 +373,13 @@ chain (group t) = 0
 chain (index t u) = suc (chain t)
 chain (call h ts t) = 0
 
+-- one nest at each token
 abbrev pub each : ℕ → List Token → List ℕ
 each d [] = []
 each d (t ∷ ts) = d ∷ each d ts
 
 abbrev mutual
+  -- of a tree, with so much open round it
   pub nests : ℕ → Tree → List ℕ
   nests d (leaf l) = d ∷ []
   nests d (prefix p t) = each (suc d) (prefix_text p) ++ nests (suc d) t
@@ -354,6 +388,7 @@ abbrev mutual
   nests d (index t u) = nests d t ++ (d + suc (suc (chain t))) ∷ (nests (d + suc (suc (chain t))) u ++ (d + suc (chain t)) ∷ [])
   nests d (call h ts t) = d ∷ suc d ∷ (each_nests (suc d) ts ++ (nests (suc d) t ++ d ∷ []))
 
+  -- of a list of terms
   pub each_nests : ℕ → Trees → List ℕ
   each_nests d none = []
   each_nests d (more ts t) = each_nests d ts ++ (nests d t ++ d ∷ [])

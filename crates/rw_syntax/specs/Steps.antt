@@ -33,6 +33,7 @@ open_square_shut v n c fs = cond (fits 9 n) (Some (wants (frames.Index v (suc c)
 unfoldable pub go_on_shut : ℕ → Part → ℕ → ℕ → List Frame → Token → Option State
 go_on_shut goal v n c fs t = go_on goal v n c fs t
 
+-- one more token
 unfoldable pub step_shut : ℕ → State → Token → Option State
 step_shut goal s t = step goal s t
 
@@ -40,5 +41,6 @@ step_shut goal s t = step goal s t
 unfoldable pub advance_shut : ℕ → State → Token → Option State
 advance_shut goal s t = advance goal s t
 
+-- the end of the tokens
 unfoldable pub finish_shut : ℕ → State → Option Part
 finish_shut goal s = finish goal s
