@@ -12,5 +12,3 @@ pub mod replace;
 mod rule;
 mod size;
 pub mod slot;
-#[cfg(test)]
-mod tests;
