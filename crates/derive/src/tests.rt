@@ -4,6 +4,7 @@ ghost use Rattle.std.specs.Prelude.{None};
 use crate::top;
 use rw_io::{Failed, MemorySink, MemorySource, NoDisk, NoDoors, Sink, Source};
 use std::alloc::Global;
+use std::process::Abort;
 use std::test::Fail;
 
 // Calls the top call with one word, and tells the status.
@@ -21,8 +22,7 @@ fn answer<I: Source, O: Sink>(
 }
 
 // Each script with its status and its replies.
-fn answers(rt: &HostRuntime, rows: &[(&str, u8, &str)]) -> Result<(), Fail> {
-    let alloc = rt.alloc();
+fn answers(rt: &impl Abort, alloc: Global, rows: &[(&str, u8, &str)]) -> Result<(), Fail> {
     for (script, status, replies) in rows {
         let mut input = MemorySource::new(alloc, script.as_bytes(), 9, &[])?;
         let mut output = MemorySink::new(alloc, 1000, 9, &[])?;
@@ -37,6 +37,7 @@ fn answers(rt: &HostRuntime, rows: &[(&str, u8, &str)]) -> Result<(), Fail> {
 fn skip_closes(rt: HostRuntime) -> Result<(), Fail> {
     answers(
         &rt,
+        rt.alloc(),
         &[
             ("", 0, ""),
             ("\n \t\r\n#b", 0, ""),
@@ -58,6 +59,7 @@ fn skip_closes(rt: HostRuntime) -> Result<(), Fail> {
 fn statuses_follow_the_edits(rt: HostRuntime) -> Result<(), Fail> {
     answers(
         &rt,
+        rt.alloc(),
         &[
             (
                 "status\nvar x : int\nroot x:[true, true]\nstatus\nstep main skip\nstatus",
@@ -77,6 +79,7 @@ fn statuses_follow_the_edits(rt: HostRuntime) -> Result<(), Fail> {
 fn refusals_change_nothing(rt: HostRuntime) -> Result<(), Fail> {
     answers(
         &rt,
+        rt.alloc(),
         &[
             ("var x : array 4", 1, "E1 syntax 8\n"),
             ("var \0", 1, "E1 syntax 4\n"),
