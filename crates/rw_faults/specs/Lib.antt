@@ -1,2 +1,4 @@
 pub mod Faults
 pub mod Preorder
+pub mod Initial
+pub mod Limits

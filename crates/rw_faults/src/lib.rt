@@ -2,7 +2,9 @@
 #![tactic(auto)]
 
 pub mod faults;
+pub mod initial;
 pub mod laws;
+pub mod limits;
 #[cfg(test)]
 mod tests;
 pub mod unknown;

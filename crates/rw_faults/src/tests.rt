@@ -30,32 +30,42 @@ fn variable(text: &[u8]) -> Result<Term, Fail> {
 }
 
 // `zz + 1 = a`, or `zz = a`.
-fn with_unknown(alloc: Global, sum: bool) -> Result<Formula, Fail> {
-    let zz = variable(b"zz")?;
+fn with_unknown(alloc: Global, sum: bool) -> Result<Boxed<Formula>, Fail> {
     let left = if sum {
-        Term::Add(Boxed::new(alloc, zz)?, Boxed::new(alloc, Term::Lit(1))?)
+        one_more(alloc)?
     } else {
-        zz
+        variable(b"zz")?
     };
-    Ok(Formula::Eq(left, variable(b"a")?))
+    Ok(Boxed::new(alloc, Formula::Eq(left, variable(b"a")?))?)
+}
+
+fn one_more(alloc: Global) -> Result<Term, Fail> {
+    let zz = Boxed::new(alloc, variable(b"zz")?)?;
+    Ok(Term::Add(zz, Boxed::new(alloc, Term::Lit(1))?))
+}
+
+fn is_ill(alloc: Global, formula: &Formula) -> Result<bool, Fail> {
+    let scope = scope(alloc)?;
+    Ok(is_ill_sorted(alloc, &scope, &[], &[], formula)?)
+}
+
+fn unknown(alloc: Global, formula: &Formula) -> Result<Name, Fail> {
+    let scope = scope(alloc)?;
+    Ok(unknown_in(&scope, &[], formula).ok_or("known")?)
 }
 
 #[test]
 fn a_sum_with_an_unknown_name_is_no_array(rt: HostRuntime) -> Result<(), Fail> {
-    let alloc = rt.alloc();
-    let scope = scope(alloc)?;
-    let formula = with_unknown(alloc, true)?;
-    assert!(rt; is_ill_sorted(alloc, &scope, &[], &[], &formula)?);
+    let formula = with_unknown(rt.alloc(), true)?;
+    assert!(rt; is_ill(rt.alloc(), formula.get())?);
     Ok(())
 }
 
 #[test]
 fn an_unknown_name_may_be_an_array(rt: HostRuntime) -> Result<(), Fail> {
-    let alloc = rt.alloc();
-    let scope = scope(alloc)?;
-    let formula = with_unknown(alloc, false)?;
-    assert!(rt; !is_ill_sorted(alloc, &scope, &[], &[], &formula)?);
-    let unknown = unknown_in(&scope, &[], &formula).ok_or("known")?;
-    assert_eq!(rt; unknown.bytes(), b"zz");
+    let formula = with_unknown(rt.alloc(), false)?;
+    assert!(rt; !is_ill(rt.alloc(), formula.get())?);
+    let name = unknown(rt.alloc(), formula.get())?;
+    assert_eq!(rt; name.bytes(), b"zz".as_slice());
     Ok(())
 }

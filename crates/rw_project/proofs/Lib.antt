@@ -1,3 +1,4 @@
 pub mod Cutting
 pub mod Runs
 pub mod Refined
+pub mod Limits

@@ -11,8 +11,9 @@ use Rattle.rw_programs.specs.Refine.{Wp, Refines}
 use Rattle.rw_programs.specs.declared.applied.Context.{Context}
 use Rattle.rw_tree.specs.declared.edit.Edit.{Edit}
 use Rattle.rw_tree.specs.declared.edit.Step.{Step}
-use Rattle.rw_tree.specs.Edits.{globals_of, root_of, step_at}
-use Rattle.rw_tree.specs.Anew.{global, main_context, applied, anew, IsClosed}
+use Rattle.rw_laws.specs.Laws.{Law, fits, misfit}
+use Rattle.rw_tree.specs.Edits.{global, globals_of, root_of, step_at}
+use Rattle.rw_tree.specs.Anew.{main_context, law_at, anew, IsClosed}
 use Rattle.rw_reader.specs.declared.request.Request.TheVariants as request
 use Rattle.rw_reader.specs.Reading.{reads, reading}
 use Rattle.rw_project.specs.Texts.{closed_text, closing_text}
@@ -30,11 +31,16 @@ table = record { library = []; is_concrete = true; procs = []; modules = [] }
 abbrev pub scope_of : List Edit → List Entry
 scope_of l = map global (globals_of l)
 
+-- the skeleton of a law that fits
+abbrev pub skeleton_of : Law → Option Prog
+skeleton_of (fits a) = Some a.skeleton
+skeleton_of (misfit m) = None
+
 -- the skeleton that the law of a node's step gives, whose kids are none yet
 abbrev pub code_by : Context → Option Spec → Option Step → Option Prog
 code_by context None s = None
 code_by context (Some w) None = None
-code_by context (Some w) (Some s) = Some (applied context w s).skeleton
+code_by context (Some w) (Some s) = skeleton_of (law_at context w s)
 
 -- the collected program
 abbrev pub code_of : List Edit → Option Prog
@@ -50,16 +56,16 @@ pub record CodeRefinesRoot (l : List Edit) : Type 0 where
   pub preconditions : (f : Formula) (s : State) → Fits (scope_of l) s → Wp heads (prog.Spec root) (λ t. Holds heads.library f t t) s → Wp table program (λ t. Holds heads.library f t t) s
 
 -- a line asks for the status, and the reply shows the project closed
-pub record ShowsClosed (l : History) (line : List ℕ) : Type 0 where
+pub record ShowsClosed (history : History) (line : List ℕ) : Type 0 where
   pub asks : reading line ≡ reads request.Status
-  pub shows : (reply l line).end ≡ closed_text
+  pub shows : (reply history line).end ≡ closed_text
 
 -- What is shown for a line after a history: a status is that of checking the live edits anew, the project is shown closed exactly
 -- where it is, and then the collected program refines the root.
-pub record StatusIsAnew (l : History) (line : List ℕ) : Type 0 where
-  pub status : reading line ≡ reads request.Status → (reply l line).end ≡ closing_text (anew l).nodes
-  pub exactly : reading line ≡ reads request.Status → (reply l line).end ≡ closed_text ↔ IsClosed l
-  pub refined : ShowsClosed l line → CodeRefinesRoot l
+pub record StatusIsAnew (history : History) (line : List ℕ) : Type 0 where
+  pub status : reading line ≡ reads request.Status → (reply history line).end ≡ closing_text (anew history.0).nodes
+  pub exactly : reading line ≡ reads request.Status → (reply history line).end ≡ closed_text ↔ IsClosed history.0
+  pub refined : ShowsClosed history line → CodeRefinesRoot history.0
 
 -- the headline of a session: of each of its lines
 abbrev pub Headline : List (List ℕ) → Type 0

@@ -1,22 +1,35 @@
 -- What the project answers to lines.
-use Rattle.std.specs.Prelude.{ℕ, ◌==◌, ◌||◌, ◌+◌, Bool, true, false, if◌then◌else◌, List, [], ◌∷◌, ◌++◌, length, Option, Some, None}
+use Rattle.std.specs.Prelude.{ℕ, ◌==◌, ◌||◌, ◌+◌, Bool, true, false, if◌then◌else◌, nat_le, nat_lt, List, [], ◌∷◌, ◌++◌, length, Option, Some, None}
 use Rattle.std.specs.List.{list_all}
 use Rattle.rw_tree.specs.declared.edit.Edit.{Edit}
 use Rattle.rw_tree.specs.declared.refusal.EditRefusal.{EditRefusal}
-use Rattle.rw_tree.specs.Refusals.{refusal_of}
+use Rattle.rw_tree.specs.declared.refusal.EditRefusal.TheVariants as refusal
+use Rattle.rw_tree.specs.declared.refusal.Which.TheVariants as which
+use Rattle.rw_tree.specs.Refusals.{or_refusal, refusal_of}
 use Rattle.rw_tree.specs.Anew.{anew}
 use Rattle.rw_reader.specs.declared.request.Request.{Request}
 use Rattle.rw_reader.specs.declared.request.Request.TheVariants as request
 use Rattle.rw_reader.specs.Reading.{Reading, reads, fault, reading}
 use Rattle.rw_project.specs.Texts.{accepted_text, refusal_text, syntax_text, closing_text}
 
--- the live edits, the newest first
+-- the live edits, the newest first, and how many bytes the lines of all accepted edits had
 abbrev pub History : Type 0
-History = List Edit
+History = List Edit × ℕ
 
 -- before any request
 abbrev pub no_history : History
-no_history = []
+no_history = ([], 0)
+
+-- a project takes one edit more where it has fewer than 65,536, and their lines have at most 16,777,216 bytes with it
+unfoldable pub past_limits : ℕ → ℕ → Option EditRefusal
+past_limits edits bytes =
+    if nat_le 65536 edits then Some (refusal.Limit which.Edits 65536)
+    else if nat_lt 16777216 bytes then Some (refusal.Limit which.Bytes 16777216)
+    else None
+
+-- the first test that refuses an edit whose line has so many bytes
+abbrev pub refusal_after : History → ℕ → Edit → Option EditRefusal
+refusal_after history bytes edit = or_refusal (past_limits (length history.0) (history.1 + bytes)) (refusal_of history.0 edit)
 
 -- space, tab and CR
 abbrev pub is_space : ℕ → Bool
@@ -42,22 +55,27 @@ pub record Reply : Type 0 where
   pub refused : Bool
 
 -- an edit is accepted and gets the next number, or it is refused and changes nothing
-abbrev pub edited : History → Edit → Option EditRefusal → Reply
-edited history edit None = record { after = edit ∷ history; lines = []; end = accepted_text (length history + 1); refused = false }
-edited history edit (Some refusal) = record { after = history; lines = []; end = refusal_text refusal; refused = true }
+abbrev pub edited : History → ℕ → Edit → Option EditRefusal → Reply
+edited history bytes edit None = record {
+  after = (edit ∷ history.0, history.1 + bytes);
+  lines = [];
+  end = accepted_text (length history.0 + 1);
+  refused = false;
+}
+edited history bytes edit (Some refusal) = record { after = history; lines = []; end = refusal_text refusal; refused = true }
 
 -- the statuses are those of checking the live edits anew
-abbrev pub reply_to : History → Request → Reply
-reply_to history (request.Edit edit) = edited history edit (refusal_of history edit)
-reply_to history request.Status = record { after = history; lines = []; end = closing_text (anew history).nodes; refused = false }
+abbrev pub reply_to : History → ℕ → Request → Reply
+reply_to history bytes (request.Edit edit) = edited history bytes edit (refusal_after history bytes edit)
+reply_to history bytes request.Status = record { after = history; lines = []; end = closing_text (anew history.0).nodes; refused = false }
 
-abbrev pub reply_by : History → Reading → Reply
-reply_by history (reads r) = reply_to history r
-reply_by history (fault offset) = record { after = history; lines = []; end = syntax_text offset; refused = true }
+abbrev pub reply_by : History → ℕ → Reading → Reply
+reply_by history bytes (reads r) = reply_to history bytes r
+reply_by history bytes (fault offset) = record { after = history; lines = []; end = syntax_text offset; refused = true }
 
 -- the reply to a line that is no comment and not blank
 unfoldable pub reply : History → List ℕ → Reply
-reply history line = reply_by history (reading line)
+reply history line = reply_by history (length line) (reading line)
 
 -- body lines, each behind `| ` and ended by LF
 abbrev pub bodies : List (List ℕ) → List ℕ

@@ -75,6 +75,7 @@ which_text which.Steps = codes "steps"
 abbrev pub refusal_text : EditRefusal → List ℕ
 refusal_text (refusal.Unknown x) = codes "E2 unknown " ++ x
 refusal_text (refusal.Duplicate x) = codes "E3 duplicate " ++ x
+refusal_text (refusal.Sort part) = codes "E4 sort " ++ decimal part
 refusal_text (refusal.NoNode place) = codes "E5 no node " ++ place_text place
 refusal_text (refusal.NoObligation k) = codes "E6 no obligation " ++ decimal k
 refusal_text (refusal.Limit w n) = codes "E7 limit " ++ which_text w ++ codes " " ++ decimal n

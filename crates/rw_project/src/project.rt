@@ -1,5 +1,5 @@
 // The project, and its replies.
-ghost use Rattle.std.specs.Prelude.{◌≡◌, ◌≤◌, ◌+◌, ◌∷◌, ◌++◌, ℕ, List, [], None, true, false, length, reverse, Contains, IfOk, OnOk, OnErr};
+ghost use Rattle.std.specs.Prelude.{◌≡◌, ◌<◌, ◌≤◌, ◌+◌, ◌∷◌, ◌++◌, ℕ, List, [], None, Some, true, false, length, reverse, Contains, IfOk, IfNone, OnOk, OnErr};
 ghost use Rattle.rw_reader.specs.declared.request.Request.TheVariants as request;
 ghost use Rattle.rw_reader.specs.Reading.{reading, reads};
 ghost use Rattle.rw_tree.specs.declared.edit.Edit.{Edit};
@@ -7,7 +7,7 @@ ghost use Rattle.rw_tree.specs.Refusals.{refusal_of, IsGood};
 ghost use Rattle.rw_tree.specs.Anew.{anew};
 ghost use Rattle.rw_tree.specs.Parts.{Makes};
 ghost use Rattle.rw_project.specs.Texts.{closing_text, syntax_text, refusal_text};
-ghost use Rattle.rw_project.specs.Session.{reply, reply_to, edited, no_history};
+ghost use Rattle.rw_project.specs.Session.{reply, edited, refusal_after, past_limits, no_history};
 ghost use Rattle.rw_project.specs.Headline.{StatusIsAnew};
 ghost use Rattle.rw_project.specs.declared.project.ProjectError.TheVariants.{Memory};
 
@@ -20,22 +20,28 @@ use rw_terms::text::Text;
 use rw_tree::anew::check_anew;
 use rw_tree::edit::Edit;
 use rw_tree::parts::{Parts, apply_edit};
-use rw_tree::refusal::{EditRefusal, TreeError};
+use rw_tree::refusal::{EditRefusal, TreeError, Which};
 use std::alloc::{AllocError, Global};
 use std::marker::Model;
 use std::sync::ledger::Ledger;
 use thiserror::Error;
 
-/// A project that one session works on: its accepted edits, and the derivation that they make.
+/// The most accepted edits of a project, and the most bytes of their lines.
+const MOST_EDITS: u32 = 65536;
+
+const MOST_BYTES: u32 = 16777216;
+
+/// A project that one session works on: its accepted edits, the derivation that they make, and how many bytes their lines had.
 #[derive(Drop)]
 pub struct Project {
     alloc: Global,
     parts: Parts,
     edits: Items<Edit>,
+    bytes: u32,
 }
 
 impl Model for Project {
-    ghost use Rattle.std.specs.Prelude.{reverse};
+    ghost use Rattle.std.specs.Prelude.{reverse, ◌≤◌};
     ghost use Rattle.std.specs.Coded.{codes};
     ghost use Rattle.rw_tree.specs.contracts.edit.Edit as e;
     ghost use Rattle.rw_tree.specs.Refusals.{IsGood};
@@ -46,9 +52,9 @@ impl Model for Project {
 
     ghost coded = { Prim.hlevel (codes, e.the_row.coded) };
 
-    ghost view = { λ p. reverse p.edits };
+    ghost view = { λ p. (reverse p.edits, p.bytes) };
 
-    ghost invariant = { λ p. Makes (reverse p.edits) p.parts × IsGood (reverse p.edits) };
+    ghost invariant = { λ p. Makes (reverse p.edits) p.parts × IsGood (reverse p.edits) × (p.bytes ≤ 16777216) };
 }
 
 /// Why a request got no reply.
@@ -91,6 +97,7 @@ impl Project {
             alloc,
             parts: Parts::empty(alloc),
             edits: Items::new(alloc),
+            bytes: 0,
         }
     }
 
@@ -114,27 +121,29 @@ impl Project {
         ensures headline { StatusIsAnew self.old line.now }
     {
         match read_request(self.alloc, line) {
-            Ok(Request::Edit(edit)) => self.take(edit),
+            Ok(Request::Edit(edit)) => self.take(line.len() as u32, edit),
             Ok(Request::Status) => self.tell(steps),
             Err(ReadError::Syntax(offset)) => self.misread(offset),
             Err(ReadError::Memory) => Err(ProjectError::Memory),
         }
     }
 
-    // The reply to an edit, which is kept where it is accepted.
-    fn take(&mut self, edit: Edit) -> Result<Reply, ProjectError>
-        ensures lines { IfOk result (λ r. r.lines ≡ (edited self.old edit (refusal_of self.old edit)).lines) }
-        ensures end { IfOk result (λ r. r.end ≡ (edited self.old edit (refusal_of self.old edit)).end) }
-        ensures refused { IfOk result (λ r. r.refused ≡ (edited self.old edit (refusal_of self.old edit)).refused) }
-        ensures after { OnOk result (self.new ≡ (edited self.old edit (refusal_of self.old edit)).after) }
+    // The reply to an edit whose line has so many bytes. It is kept where it is accepted.
+    fn take(&mut self, bytes: u32, edit: Edit) -> Result<Reply, ProjectError>
+        requires { bytes ≤ 65536 }
+        ensures lines { IfOk result (λ r. r.lines ≡ (edited self.old bytes edit (refusal_after self.old bytes edit)).lines) }
+        ensures end { IfOk result (λ r. r.end ≡ (edited self.old bytes edit (refusal_after self.old bytes edit)).end) }
+        ensures refused { IfOk result (λ r. r.refused ≡ (edited self.old bytes edit (refusal_after self.old bytes edit)).refused) }
+        ensures after { OnOk result (self.new ≡ (edited self.old bytes edit (refusal_after self.old bytes edit)).after) }
         ensures err { OnErr result (self.new ≡ self.old) }
     {
         let at = self.edits.len();
         self.edits.push(edit)?;
-        let number = self.edits.len() as u64;
         match apply(
             self.alloc,
-            number,
+            at,
+            self.bytes,
+            bytes,
             &self.edits.as_slice()[at],
             &mut self.parts,
         ) {
@@ -143,6 +152,7 @@ impl Project {
                     discard_last(&mut self.edits);
                     return Ok(reply);
                 }
+                self.bytes += bytes;
                 Ok(reply)
             }
             Err(error) => {
@@ -155,7 +165,7 @@ impl Project {
     // The reply to a request for the status.
     fn tell<L: Ledger>(&self, steps: &mut Steps<L>) -> Result<Reply, ProjectError>
         ensures lines { IfOk result (λ r. r.lines ≡ []) }
-        ensures end { IfOk result (λ r. r.end ≡ closing_text (anew self.now).nodes) }
+        ensures end { IfOk result (λ r. r.end ≡ closing_text (anew self.now.0).nodes) }
         ensures refused { IfOk result (λ r. r.refused ≡ false) }
     {
         let statuses = check_anew(self.alloc, &self.parts, steps)?;
@@ -189,16 +199,28 @@ fn discard_last<T: Drop>(items: &mut Items<T>)
     items.pop();
 }
 
-// Applies an edit that gets this number where it is accepted, and makes the reply.
-fn apply(alloc: Global, number: u64, edit: &Edit, parts: &mut Parts) -> Result<Reply, ProjectError>
+// Applies an edit behind so many others, whose lines had so many bytes, and makes the reply; its own line has so many bytes.
+fn apply(
+    alloc: Global,
+    count: usize,
+    before: u32,
+    bytes: u32,
+    edit: &Edit,
+    parts: &mut Parts,
+) -> Result<Reply, ProjectError>
+    requires { before + bytes ≤ u32.MAX }
     ensures lines { IfOk result (λ r. r.lines ≡ []) }
-    ensures end { IfOk result (λ r. (l : List Edit) → Makes l parts.old → number ≡ length l + 1 → r.end ≡ (edited l edit.now (refusal_of l edit.now)).end) }
-    ensures refused { IfOk result (λ r. (l : List Edit) → Makes l parts.old → r.refused ≡ (edited l edit.now (refusal_of l edit.now)).refused) }
+    ensures end { IfOk result (λ r. (l : List Edit) → Makes l parts.old → count ≡ length l → r.end ≡ (edited (l, before) bytes edit.now (refusal_after (l, before) bytes edit.now)).end) }
+    ensures refused { IfOk result (λ r. (l : List Edit) → Makes l parts.old → count ≡ length l → r.refused ≡ (edited (l, before) bytes edit.now (refusal_after (l, before) bytes edit.now)).refused) }
     ensures made { IfOk result (λ r. r.refused ≡ false → (l : List Edit) → Makes l parts.old → Makes (edit.now ∷ l) parts.new × (refusal_of l edit.now ≡ None)) }
+    ensures room { IfOk result (λ r. r.refused ≡ false → before + bytes ≤ 16777216) }
     ensures same { IfOk result (λ r. r.refused ≡ true → parts.new ≡ parts.old) }
     ensures err { OnErr result (parts.new ≡ parts.old) }
 {
-    let end = accepted_text(alloc, number)?;
+    if let Some(refusal) = past_limits(count, before + bytes) {
+        return refuse(alloc, &refusal);
+    }
+    let end = accepted_text(alloc, count as u64 + 1)?;
     match apply_edit(alloc, parts, edit) {
         Ok(()) => Ok(Reply {
             lines: Items::new(alloc),
@@ -207,6 +229,22 @@ fn apply(alloc: Global, number: u64, edit: &Edit, parts: &mut Parts) -> Result<R
         }),
         Err(refusal) => refuse(alloc, &refusal),
     }
+}
+
+// The limit that one more edit behind so many passes, where the lines of all have so many bytes.
+fn past_limits(count: usize, bytes: u32) -> Option<EditRefusal>
+    ensures told { (l : List Edit) → count ≡ length l → result ≡ past_limits (length l) bytes }
+    ensures memory { result ≡ Some EditRefusal.Memory → ⊥ }
+    ensures few { IfNone result (count < 65536) }
+    ensures short { IfNone result (bytes ≤ 16777216) }
+{
+    if count >= MOST_EDITS as usize {
+        return Some(EditRefusal::Limit(Which::Edits, MOST_EDITS));
+    }
+    if bytes > MOST_BYTES {
+        return Some(EditRefusal::Limit(Which::Bytes, MOST_BYTES));
+    }
+    None
 }
 
 // The reply to a refused edit.

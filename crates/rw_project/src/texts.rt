@@ -40,6 +40,10 @@ pub fn refusal_text(alloc: Global, refusal: &EditRefusal) -> Result<Text, AllocE
             text.push_str("E3 duplicate ")?;
             text.push_name(name)?;
         }
+        EditRefusal::Sort(part) => {
+            text.push_str("E4 sort ")?;
+            text.push_number(*part as u64)?;
+        }
         EditRefusal::NoNode(place) => {
             text.push_str("E5 no node ")?;
             push_place(&mut text, place)?;

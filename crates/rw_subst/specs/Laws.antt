@@ -39,6 +39,12 @@ ReplacementHoldsInStates =
 abbrev pub InitialChangesAreClosed : Type 0
 InitialChangesAreClosed = (frame : List (List ℕ)) → IsTrue (are_closed (map to_initial frame)) × IsTrue (are_closed (map from_initial frame))
 
+-- Where the state is the initial one, a frame's initial variables may be read as its variables.
+abbrev pub CurrentForInitial : Type 0
+CurrentForInitial =
+    (frame : List (List ℕ)) (f : Formula) (library : List Definition) (s : State) (b : List Value) →
+    holds library (replaced_formula (map from_initial frame) f) s s b ↔ holds library f s s b
+
 -- The opened body holds where the body does with the term's value for its first loose binder.
 abbrev pub OpeningKeepsTruth : Type 0
 OpeningKeepsTruth =

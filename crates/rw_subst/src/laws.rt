@@ -2,7 +2,7 @@
 
 ghost use Rattle.rw_subst.specs.Guards.{DefinednessOfTerms, DefinednessOfGuards};
 ghost use Rattle.rw_subst.specs.Kinds.{NamesHaveOneKind, NamesOfTermsHaveOneKind};
-ghost use Rattle.rw_subst.specs.Laws.{ReplacementKeepsValues, ReplacementKeepsTruth, ReplacementInStates, ReplacementHoldsInStates, InitialChangesAreClosed, OpeningKeepsTruth, OpeningHoldsInStates, ClosingKeepsTruth, ClosingHoldsInStates};
+ghost use Rattle.rw_subst.specs.Laws.{ReplacementKeepsValues, ReplacementKeepsTruth, ReplacementInStates, ReplacementHoldsInStates, InitialChangesAreClosed, CurrentForInitial, OpeningKeepsTruth, OpeningHoldsInStates, ClosingKeepsTruth, ClosingHoldsInStates};
 
 /// What is replaced has the value, and holds or not, as the old one does where each slot has the value of its term.
 /// An initial variable changes only where its own slot is named.
@@ -12,6 +12,7 @@ pub fn replacement()
     ensures values_in_states { ReplacementInStates }
     ensures truth_in_states { ReplacementHoldsInStates }
     ensures initial { InitialChangesAreClosed }
+    ensures current { CurrentForInitial }
 {}
 
 /// In what the rules of sorts allow no name stands both as variable and as constant, as the laws in states ask.

@@ -1,12 +1,8 @@
 -- Checking the parts tells what the definitions tell of the list of edits that makes them.
-use Rattle.std.proofs.Common.{◌≡◌, ℕ, ◌≤◌, Bool, true, false, if◌then◌else◌, nat_lt, nat_eq, List, [], ◌∷◌, length, sym, ◌∙◌, subst, arith, Option, Some, None, unwrap_or, inl, inr}
+use Rattle.std.proofs.Common.{◌≡◌, ℕ, ◌≤◌, Bool, true, false, if◌then◌else◌, nat_lt, nat_eq, List, [], ◌∷◌, length, sym, ◌∙◌, subst, Option, Some, None, unwrap_or, inl, inr}
 use Rattle.std.proofs.lemmas.Bool.Decides.{leb_tells}
-use Rattle.rw_programs.specs.declared.prog.Spec.{Spec}
-use Rattle.rw_programs.specs.declared.applied.Context.{Context}
 use Rattle.rw_sequents.specs.declared.line.Cert.{Cert}
-use Rattle.rw_laws.specs.declared.step.BasicStep.TheVariants as basic
 use Rattle.rw_tree.specs.declared.edit.Step.{Step}
-use Rattle.rw_tree.specs.declared.edit.Step.TheVariants as step
 use Rattle.rw_tree.specs.declared.edit.Edit.{Edit}
 use Rattle.rw_tree.specs.declared.edit.Edit.TheVariants as edit
 use Rattle.rw_tree.specs.declared.refusal.EditRefusal.{EditRefusal}
@@ -15,8 +11,8 @@ use Rattle.rw_tree.specs.declared.refusal.Which.TheVariants as which
 use Rattle.rw_tree.specs.declared.parts.Parts.{Parts}
 use Rattle.rw_tree.specs.Edits.{cert_at, cert_set, cert_dropped, behind, is_node, obligations_of}
 use Rattle.rw_tree.specs.Refusals.{has_obligation, too_long, IsGood}
-use Rattle.rw_tree.specs.Anew.{main_context, needs_at, needs_for, status_at, root_needs, root_mark, root_place}
-use Rattle.rw_tree.specs.Parts.{Makes, HasFewLines, numbered, needs_in, mark_in}
+use Rattle.rw_tree.specs.Anew.{main_context, judged, root_judged, root_mark, root_place}
+use Rattle.rw_tree.specs.Parts.{Makes, HasFewLines, judged_in, mark_in}
 
 -- what an accepted choice says
 not_taken : (b : Bool) (o : Option EditRefusal) (r : EditRefusal) → (if b then o else Some r) ≡ None → o ≡ None
@@ -57,24 +53,14 @@ few_lines (edit.Prove q j d ∷ l) good k c e =
 pub few_made : (l : List Edit) (parts : Parts) → Makes l parts → IsGood l → HasFewLines parts.main.certs
 few_made l parts m good k c e = few_lines l good k c (sym (m.certs k) ∙ e)
 
-few_needs_at : (context : Context) (w : Option Spec) (s : Option Step) (certs : ℕ → Option Cert) → length (needs_at context w s certs) ≤ 1
-unfolding needs_for
-few_needs_at context None s certs = omega arith
-few_needs_at context (Some w) None certs = omega arith
-few_needs_at context (Some w) (Some (step.Basic basic.Skip)) certs = omega arith
-
--- a node has one obligation at most
-pub few_needs : (parts : Parts) → length (needs_in parts) ≤ 1
-few_needs parts = few_needs_at (main_context parts.globals) parts.root parts.main.step (numbered parts.main.certs)
-
-needs_same : (l : List Edit) (parts : Parts) → Makes l parts → needs_in parts ≡ root_needs l
-needs_same l parts m = λ i. needs_at (main_context (m.globals i)) (m.root i) (m.step i) (λ k. m.certs k i)
+pub judged_same : (l : List Edit) (parts : Parts) → Makes l parts → judged_in parts ≡ root_judged l
+judged_same l parts m = λ i. judged (main_context (m.globals i)) (m.root i) (m.step i) (λ k. m.certs k i)
 
 -- the mark by the parts is that by the list
 pub mark_same : (l : List Edit) (parts : Parts) → Makes l parts → mark_in parts ≡ root_mark l
 mark_same l parts m = λ i. record {
   place = root_place;
-  status = status_at (m.root i) (m.step i) (needs_same l parts m i);
+  status = (judged_same l parts m i).status;
   spec = m.root i;
-  needs = needs_same l parts m i;
+  needs = (judged_same l parts m i).needs;
 }

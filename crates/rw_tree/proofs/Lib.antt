@@ -1,3 +1,4 @@
 pub mod Sizes
 pub mod Making
 pub mod Checking
+pub mod Roots

@@ -1,18 +1,15 @@
 -- Checking anew: the status of each node, from the live edits alone.
 use Rattle.std.specs.Prelude.{◌≡◌, ℕ, ◌+◌, List, [], ◌∷◌, map, false, Option, Some, None}
-use Rattle.rw_terms.specs.declared.scope.Entry.{Entry}
-use Rattle.rw_terms.specs.declared.scope.Kind.TheVariants as kind
 use Rattle.rw_terms.specs.declared.sequent.Sequent.{Sequent}
 use Rattle.rw_terms.specs.Validity.{Each}
 use Rattle.rw_programs.specs.declared.prog.Param.{Param}
 use Rattle.rw_programs.specs.declared.prog.Spec.{Spec}
 use Rattle.rw_programs.specs.declared.applied.Context.{Context}
-use Rattle.rw_programs.specs.declared.applied.Applied.{Applied}
 use Rattle.rw_sequents.specs.declared.line.Cert.{Cert}
 use Rattle.rw_sequents.specs.declared.line.Verdict.{Verdict}
 use Rattle.rw_sequents.specs.declared.line.Verdict.TheVariants as verdicts
 use Rattle.rw_sequents.specs.After.{verdict}
-use Rattle.rw_laws.specs.Laws.{law_of}
+use Rattle.rw_laws.specs.Laws.{Law, fits, misfit, law_of}
 use Rattle.rw_tree.specs.declared.edit.Edit.{Edit}
 use Rattle.rw_tree.specs.declared.edit.Step.{Step}
 use Rattle.rw_tree.specs.declared.edit.Step.TheVariants as step
@@ -23,21 +20,18 @@ use Rattle.rw_tree.specs.declared.status.NeedState.TheVariants as need
 use Rattle.rw_tree.specs.declared.status.Need.{Need}
 use Rattle.rw_tree.specs.declared.status.Status.{Status}
 use Rattle.rw_tree.specs.declared.status.Status.TheVariants as status
+use Rattle.rw_tree.specs.declared.status.Judgement.{Judgement}
 use Rattle.rw_tree.specs.declared.status.NodeMark.{NodeMark}
 use Rattle.rw_tree.specs.declared.status.Statuses.{Statuses}
-use Rattle.rw_tree.specs.Edits.{globals_of, root_of, step_at, cert_at}
-
--- a global in the scope of the main tree
-abbrev pub global : Param → Entry
-global p = record { name = p.name; sort = p.sort; kind = kind.Global }
+use Rattle.rw_tree.specs.Edits.{global, globals_of, root_of, step_at, cert_at}
 
 -- where the main tree stands: its scope is the globals
 unfoldable pub main_context : List Param → Context
 main_context globals = record { scope = map global globals; opened = []; order = 4294967295; inner = false }
 
--- what the law of a step makes of a specification
-abbrev pub applied : Context → Spec → Step → Applied
-applied context w (step.Basic s) = law_of context w s
+-- what the law of a step says of a specification
+abbrev pub law_at : Context → Spec → Step → Law
+law_at context w (step.Basic s) = law_of context w s
 
 -- what a verdict says of an obligation
 abbrev pub state_by : Verdict → NeedState
@@ -65,26 +59,23 @@ abbrev pub pending_from : ℕ → List Need → Status
 pending_from k [] = status.Good
 pending_from k (n ∷ needs) = held_up k n.state (pending_from (k + 1) needs)
 
--- the obligations of a node with their states, by its specification, its step and its certificates
-unfoldable pub needs_for : Context → Spec → Step → (ℕ → Option Cert) → List Need
-needs_for context w s certs = needs_from 1 (applied context w s).obligations certs
+-- a node by what the law of its step says: a misfit owes nothing
+abbrev pub judged_by : Law → (ℕ → Option Cert) → Judgement
+judged_by (misfit m) certs = record { status = status.Misfit m; needs = [] }
+judged_by (fits a) certs = record { status = pending_from 1 (needs_from 1 a.obligations certs); needs = needs_from 1 a.obligations certs }
 
-abbrev pub needs_at : Context → Option Spec → Option Step → (ℕ → Option Cert) → List Need
-needs_at context None s certs = []
-needs_at context (Some w) None certs = []
-needs_at context (Some w) (Some s) certs = needs_for context w s certs
+unfoldable pub judged_step : Context → Spec → Step → (ℕ → Option Cert) → Judgement
+judged_step context w s certs = judged_by (law_at context w s) certs
 
-abbrev pub status_at : Option Spec → Option Step → List Need → Status
-status_at None s needs = status.NoSpec
-status_at (Some w) None needs = status.Open
-status_at (Some w) (Some s) needs = pending_from 1 needs
+-- the status and the obligations of a node, by its specification, its step and its certificates
+abbrev pub judged : Context → Option Spec → Option Step → (ℕ → Option Cert) → Judgement
+judged context None s certs = record { status = status.NoSpec; needs = [] }
+judged context (Some w) None certs = record { status = status.Open; needs = [] }
+judged context (Some w) (Some s) certs = judged_step context w s certs
 
 -- the root of the main tree, by the live edits
-abbrev pub root_needs : List Edit → List Need
-root_needs l = needs_at (main_context (globals_of l)) (root_of l) (step_at l []) (cert_at l [])
-
-abbrev pub root_status : List Edit → Status
-root_status l = status_at (root_of l) (step_at l []) (root_needs l)
+abbrev pub root_judged : List Edit → Judgement
+root_judged l = judged (main_context (globals_of l)) (root_of l) (step_at l []) (cert_at l [])
 
 abbrev pub root_place : Place
 root_place = record { tree = tree.Main; path = record { kids = [] } }
@@ -92,9 +83,9 @@ root_place = record { tree = tree.Main; path = record { kids = [] } }
 abbrev pub root_mark : List Edit → NodeMark
 root_mark l = record {
   place = root_place;
-  status = root_status l;
+  status = (root_judged l).status;
   spec = root_of l;
-  needs = root_needs l;
+  needs = (root_judged l).needs;
 }
 
 -- what checking anew tells: no step has kids yet, so the root is the one node

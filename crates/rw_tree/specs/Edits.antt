@@ -1,5 +1,8 @@
 -- What a list of edits makes, read back from its newest edit, which stands first in the list.
-use Rattle.std.specs.Prelude.{ℕ, Bool, true, ◌&&◌, if◌then◌else◌, nat_eq, nat_le, nat_lt, List, [], ◌∷◌, ◌++◌, Option, Some, None, unwrap_or}
+use Rattle.std.specs.Prelude.{ℕ, Bool, true, ◌&&◌, if◌then◌else◌, nat_eq, nat_le, nat_lt, List, [], ◌∷◌, ◌++◌, Option, Some, None, unwrap_or, bytes_eq}
+use Rattle.std.specs.List.{list_any}
+use Rattle.rw_terms.specs.declared.scope.Entry.{Entry}
+use Rattle.rw_terms.specs.declared.scope.Kind.TheVariants as kind
 use Rattle.rw_programs.specs.declared.prog.Param.{Param}
 use Rattle.rw_programs.specs.declared.prog.Spec.{Spec}
 use Rattle.rw_sequents.specs.declared.line.Cert.{Cert}
@@ -8,6 +11,14 @@ use Rattle.rw_tree.specs.declared.edit.Edit.{Edit}
 use Rattle.rw_tree.specs.declared.edit.Edit.TheVariants as edit
 use Rattle.rw_tree.specs.declared.edit.Step.{Step}
 use Rattle.rw_tree.specs.declared.edit.Step.TheVariants as step
+
+-- a global in the scope of the main tree
+abbrev pub global : Param → Entry
+global p = record { name = p.name; sort = p.sort; kind = kind.Global }
+
+-- whether a name is among the declared ones
+abbrev pub is_param : List Param → List ℕ → Bool
+is_param params x = list_any (λ p. bytes_eq p.name x) params
 
 -- how many kids a step has
 abbrev pub kids_of : Step → ℕ

@@ -1,5 +1,4 @@
 pub mod Edits
-pub mod Unknown
 pub mod Refusals
 pub mod Anew
 pub mod Parts

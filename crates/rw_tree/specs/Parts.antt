@@ -11,11 +11,10 @@ use Rattle.rw_tree.specs.declared.refusal.EditRefusal.TheVariants as refusal
 use Rattle.rw_tree.specs.declared.parts.Node.{Node}
 use Rattle.rw_tree.specs.declared.parts.Parts.{Parts}
 use Rattle.rw_tree.specs.Edits.{globals_of, root_of, step_at, cert_at, obligations_of, obligations_in}
-use Rattle.rw_tree.specs.declared.status.Need.{Need}
-use Rattle.rw_tree.specs.declared.status.Status.{Status}
 use Rattle.rw_tree.specs.declared.status.NodeMark.{NodeMark}
-use Rattle.rw_tree.specs.Anew.{main_context, needs_at, status_at, root_place}
-use Rattle.rw_tree.specs.Refusals.{is_param, spec_unknown, unknown, too_long}
+use Rattle.rw_tree.specs.declared.status.Judgement.{Judgement}
+use Rattle.rw_tree.specs.Anew.{main_context, judged, root_place}
+use Rattle.rw_tree.specs.Refusals.{or_refusal, var_refusal, root_refusal, too_long}
 
 -- the certificate of the obligation of this number, from 1
 abbrev pub numbered : List (Option Cert) → ℕ → Option Cert
@@ -63,26 +62,19 @@ no_node q = no_node_at q.path.kids q
 abbrev pub no_obligation : Parts → ℕ → Cert → Option EditRefusal
 no_obligation parts k c = if nat_le 1 k && nat_le k (length parts.main.certs) then too_long c else Some (refusal.NoObligation k)
 
-abbrev pub or_refusal : Option EditRefusal → Option EditRefusal → Option EditRefusal
-or_refusal None later = later
-or_refusal (Some r) later = Some r
-
 -- the first test that refuses the edit, told from the parts
 abbrev pub refusal_in : Parts → Edit → Option EditRefusal
-refusal_in parts (edit.Var p) = if is_param parts.globals p.name then Some (refusal.Duplicate p.name) else None
-refusal_in parts (edit.Root w) = unknown (spec_unknown (is_param parts.globals) w)
+refusal_in parts (edit.Var p) = var_refusal parts.globals p
+refusal_in parts (edit.Root w) = root_refusal parts.globals w
 refusal_in parts (edit.Step q s) = no_node q
 refusal_in parts (edit.Prove q k c) = or_refusal (no_node q) (no_obligation parts k c)
 
 -- what checking anew tells of the parts
-abbrev pub needs_in : Parts → List Need
-needs_in parts = needs_at (main_context parts.globals) parts.root parts.main.step (numbered parts.main.certs)
-
-abbrev pub status_in : Parts → Status
-status_in parts = status_at parts.root parts.main.step (needs_in parts)
+abbrev pub judged_in : Parts → Judgement
+judged_in parts = judged (main_context parts.globals) parts.root parts.main.step (numbered parts.main.certs)
 
 abbrev pub mark_in : Parts → NodeMark
-mark_in parts = record { place = root_place; status = status_in parts; spec = parts.root; needs = needs_in parts }
+mark_in parts = record { place = root_place; status = (judged_in parts).status; spec = parts.root; needs = (judged_in parts).needs }
 
 -- no certificate has more than 4096 lines
 abbrev pub HasFewLines : List (Option Cert) → Type 0

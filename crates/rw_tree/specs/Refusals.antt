@@ -1,6 +1,10 @@
 -- Which test refuses an edit after a list of edits.
-use Rattle.std.specs.Prelude.{◌≡◌, ℕ, Bool, ◌&&◌, if◌then◌else◌, nat_le, length, List, [], ◌∷◌, map, Option, Some, None, bytes_eq}
-use Rattle.std.specs.List.{list_any}
+use Rattle.std.specs.Prelude.{◌≡◌, ℕ, Bool, not, ◌&&◌, ◌||◌, if◌then◌else◌, nat_le, nat_lt, length, List, [], ◌∷◌, map, Option, Some, None}
+use Rattle.rw_terms.specs.declared.scope.Entry.{Entry}
+use Rattle.rw_terms.specs.declared.term.Formula.{Formula}
+use Rattle.rw_faults.specs.Faults.{first_name, unknown_in, is_ill_sorted}
+use Rattle.rw_faults.specs.Initial.{is_twice, initial_outside}
+use Rattle.rw_faults.specs.Limits.{is_light, is_shallow, is_small}
 use Rattle.rw_programs.specs.declared.prog.Param.{Param}
 use Rattle.rw_programs.specs.declared.prog.Spec.{Spec}
 use Rattle.rw_sequents.specs.declared.line.Cert.{Cert}
@@ -10,21 +14,57 @@ use Rattle.rw_tree.specs.declared.edit.Edit.TheVariants as edit
 use Rattle.rw_tree.specs.declared.refusal.EditRefusal.{EditRefusal}
 use Rattle.rw_tree.specs.declared.refusal.EditRefusal.TheVariants as refusal
 use Rattle.rw_tree.specs.declared.refusal.Which.TheVariants as which
-use Rattle.rw_tree.specs.Edits.{globals_of, step_at, obligations_in, is_node}
-use Rattle.rw_tree.specs.Unknown.{or_else, first_there, unless_declared, formula_unknown}
+use Rattle.rw_tree.specs.Edits.{global, is_param, globals_of, step_at, obligations_in, is_node}
 
--- whether a name is among the declared ones
-abbrev pub is_param : List Param → List ℕ → Bool
-is_param params x = list_any (λ p. bytes_eq p.name x) params
+-- the first of two refusals, if any
+abbrev pub or_refusal : Option EditRefusal → Option EditRefusal → Option EditRefusal
+or_refusal None later = later
+or_refusal (Some r) later = Some r
 
--- the first name of a specification, frame first, that is not declared
-abbrev pub spec_unknown : (List ℕ → Bool) → Spec → Option (List ℕ)
-spec_unknown declared w = or_else (first_there (map (unless_declared declared) w.frame)) (or_else (formula_unknown declared w.pre) (formula_unknown declared w.post))
+-- the first name of a frame that is no global
+abbrev pub frame_unknown : List Param → List (List ℕ) → Option (List ℕ)
+frame_unknown globals [] = None
+frame_unknown globals (x ∷ names) = if is_param globals x then frame_unknown globals names else Some x
+
+-- the first name of a specification, frame first, that is no global
+abbrev pub root_unknown : List Param → Spec → Option (List ℕ)
+root_unknown globals w =
+    first_name (frame_unknown globals w.frame) (first_name (unknown_in (map global globals) [] w.pre) (unknown_in (map global globals) [] w.post))
+
+-- within the limits, but ill-sorted or with an initial variable of a name that is not among these
+abbrev pub is_ill_formed : List Entry → List (List ℕ) → Formula → Bool
+is_ill_formed scope initials f = is_small f && (initial_outside initials f || is_ill_sorted scope [] f [])
+
+-- the first ill-formed part: a frame with a name twice is part 0, the precondition is part 1, the postcondition part 2
+abbrev pub ill_formed_part : List Entry → Spec → Option ℕ
+ill_formed_part scope w =
+    if is_twice w.frame then Some 0 else if is_ill_formed scope [] w.pre then Some 1 else if is_ill_formed scope w.frame w.post then Some 2 else None
+
+-- the first limit that a specification passes
+abbrev pub past_limit : Spec → Option EditRefusal
+past_limit w =
+    if not (is_light w.pre) || not (is_light w.post) then Some (refusal.Limit which.Weight 1024)
+    else if not (is_shallow w.pre) || not (is_shallow w.post) then Some (refusal.Limit which.Depth 64)
+    else if nat_lt 64 (length w.frame) then Some (refusal.Limit which.Globals 64)
+    else None
 
 -- a name that is not declared is unknown
 abbrev pub unknown : Option (List ℕ) → Option EditRefusal
 unknown None = None
 unknown (Some x) = Some (refusal.Unknown x)
+
+abbrev pub ill_formed : Option ℕ → Option EditRefusal
+ill_formed None = None
+ill_formed (Some part) = Some (refusal.Sort part)
+
+-- the tests of a root, in order: unknown names, ill-formed parts, limits
+unfoldable pub root_refusal : List Param → Spec → Option EditRefusal
+root_refusal globals w = or_refusal (unknown (root_unknown globals w)) (or_refusal (ill_formed (ill_formed_part (map global globals) w)) (past_limit w))
+
+-- the tests of a global: its name is fresh, and there are fewer than 64
+abbrev pub var_refusal : List Param → Param → Option EditRefusal
+var_refusal globals p =
+    if is_param globals p.name then Some (refusal.Duplicate p.name) else if nat_le 64 (length globals) then Some (refusal.Limit which.Globals 64) else None
 
 -- the place is a node, and then what is asked there
 abbrev pub at_node : List Edit → Place → Option EditRefusal → Option EditRefusal
@@ -40,8 +80,8 @@ too_long c = if nat_le (length c.lines) 4096 then None else Some (refusal.Limit 
 
 -- the first test that refuses the edit after the list, if one does
 abbrev pub refusal_of : List Edit → Edit → Option EditRefusal
-refusal_of l (edit.Var p) = if is_param (globals_of l) p.name then Some (refusal.Duplicate p.name) else None
-refusal_of l (edit.Root w) = unknown (spec_unknown (is_param (globals_of l)) w)
+refusal_of l (edit.Var p) = var_refusal (globals_of l) p
+refusal_of l (edit.Root w) = root_refusal (globals_of l) w
 refusal_of l (edit.Step q s) = at_node l q None
 refusal_of l (edit.Prove q k c) = at_node l q (if has_obligation l q.path.kids k then too_long c else Some (refusal.NoObligation k))
 

@@ -1,24 +1,25 @@
 //! Checking a project anew.
 
-ghost use Rattle.std.specs.Prelude.{◌≡◌, ◌≤◌, ◌<◌, ◌+◌, ℕ, List, [], IfOk, IfErr, Option, option_copied, length, map};
+ghost use Rattle.std.specs.Prelude.{◌≡◌, ◌≤◌, ◌<◌, ◌+◌, ◌⊎◌, ℕ, List, [], IfOk, IfErr, option_copied, length};
+ghost use Rattle.rw_laws.specs.Laws.{FitsWith, MisfitsBy};
 ghost use Rattle.rw_sequents.specs.declared.line.Cert.{Cert};
 ghost use Rattle.rw_tree.specs.declared.edit.Edit.{Edit};
 ghost use Rattle.rw_tree.specs.Refusals.{IsGood};
-ghost use Rattle.rw_tree.specs.Anew.{anew, global, main_context, root_place, applied, state_by, state_of, needs_from, needs_for, needs_at, status_at, pending_from};
-ghost use Rattle.rw_tree.specs.Parts.{Makes, HasFewLines, numbered, mark_in, needs_in, status_in};
+ghost use Rattle.rw_tree.specs.Anew.{anew, main_context, root_place, law_at, state_of, needs_from, judged_step, pending_from};
+ghost use Rattle.rw_tree.specs.Parts.{Makes, HasFewLines, numbered, mark_in, judged_in};
 
 use crate::edit::{Path, Place, Step, TreeName};
+use crate::globals::scope_of;
 use crate::parts::Parts;
 use crate::refusal::TreeError;
-use crate::status::{Need, NeedState, NodeMark, Status, Statuses};
+use crate::status::{Judgement, Need, NeedState, NodeMark, Status, Statuses};
 use rw_items::Items;
 use rw_laws::apply::obligations;
-use rw_programs::applied::Context;
+use rw_programs::applied::{ApplyError, Context};
 use rw_programs::prog::{Param, Spec};
 use rw_sequents::check::check;
 use rw_sequents::line::{Cert, Verdict};
 use rw_steps::Steps;
-use rw_terms::scope::{Entry, Kind, Scope};
 use rw_terms::sequent::Sequent;
 use std::alloc::{AllocError, Global};
 use std::sync::ledger::Ledger;
@@ -47,12 +48,12 @@ fn root_mark<L: Ledger>(
     requires { HasFewLines parts.now.main.certs }
     ensures { IfOk result (λ mark. mark ≡ mark_in parts.now) }
 {
-    let needs = root_needs(alloc, parts, steps)?;
+    let judgement = judged(alloc, parts, steps)?;
     Ok(NodeMark {
         place: root_place(alloc),
-        status: status_at(parts, needs.as_slice()),
+        status: judgement.status,
         spec: copy_root(alloc, parts)?,
-        needs,
+        needs: judgement.needs,
     })
 }
 
@@ -76,43 +77,56 @@ fn copy_root(alloc: Global, parts: &Parts) -> Result<Option<Spec>, AllocError>
     }
 }
 
-// The obligations of the root with their states; none where it has no specification or no step.
-fn root_needs<L: Ledger>(
+// The status of the root, and its obligations with their states.
+fn judged<L: Ledger>(
     alloc: Global,
     parts: &Parts,
     steps: &mut Steps<L>,
-) -> Result<Items<Need>, TreeError>
+) -> Result<Judgement, TreeError>
     requires { HasFewLines parts.now.main.certs }
-    ensures { IfOk result (λ needs. needs ≡ needs_in parts.now) }
+    ensures { IfOk result (λ j. j ≡ judged_in parts.now) }
 {
     match &parts.root {
-        None => Ok(Items::new(alloc)),
+        None => Ok(without_needs(alloc, Status::NoSpec)),
         Some(spec) => match &parts.main.step {
-            None => Ok(Items::new(alloc)),
-            Some(step) => needs_for(alloc, parts, spec, step, steps),
+            None => Ok(without_needs(alloc, Status::Open)),
+            Some(step) => judged_step(alloc, parts, spec, step, steps),
         },
     }
 }
 
-#[tactic(auto, unfolding(crate::specs::Anew::needs_for))]
-fn needs_for<L: Ledger>(
+fn without_needs(alloc: Global, status: Status) -> Judgement
+    ensures status { result.status ≡ status }
+    ensures needs { result.needs ≡ [] }
+{
+    Judgement {
+        status,
+        needs: Items::new(alloc),
+    }
+}
+
+#[tactic(auto, unfolding(crate::specs::Anew::judged_step))]
+fn judged_step<L: Ledger>(
     alloc: Global,
     parts: &Parts,
     spec: &Spec,
     step: &Step,
     steps: &mut Steps<L>,
-) -> Result<Items<Need>, TreeError>
+) -> Result<Judgement, TreeError>
     requires { HasFewLines parts.now.main.certs }
-    ensures { IfOk result (λ needs. needs ≡ needs_for (main_context parts.now.globals) spec.now step.now (numbered parts.now.main.certs)) }
+    ensures { IfOk result (λ j. j ≡ judged_step (main_context parts.now.globals) spec.now step.now (numbered parts.now.main.certs)) }
 {
     let context = main_context(alloc, parts.globals.as_slice())?;
-    let obligations = obligations_of(alloc, &context, spec, step)?;
-    needs_of(
-        alloc,
-        obligations.as_slice(),
-        parts.main.certs.as_slice(),
-        steps,
-    )
+    match obligations_of(alloc, &context, spec, step) {
+        Ok(obligations) => {
+            let certs = parts.main.certs.as_slice();
+            let needs = needs_of(alloc, obligations.as_slice(), certs, steps)?;
+            let status = pending(needs.as_slice());
+            Ok(Judgement { status, needs })
+        }
+        Err(ApplyError::Misfit(misfit)) => Ok(without_needs(alloc, Status::Misfit(misfit))),
+        Err(ApplyError::Memory) => Err(TreeError::Memory),
+    }
 }
 
 #[tactic(auto, unfolding(crate::specs::Anew::main_context))]
@@ -120,25 +134,11 @@ fn main_context(alloc: Global, globals: &[Param]) -> Result<Context, AllocError>
     ensures { IfOk result (λ context. context ≡ main_context globals.now) }
 {
     Ok(Context {
-        scope: Scope::of_entries(global_entries(alloc, globals)?),
+        scope: scope_of(alloc, globals)?,
         opened: Items::new(alloc),
         order: u32::MAX,
         inner: false,
     })
-}
-
-fn global_entries(alloc: Global, globals: &[Param]) -> Result<Items<Entry>, AllocError>
-    ensures { IfOk result (λ entries. entries ≡ map global globals.now) }
-{
-    let mut entries = Items::new(alloc);
-    for param in globals {
-        entries.push(Entry {
-            name: param.name.copy(),
-            sort: param.sort,
-            kind: Kind::Global,
-        })?;
-    }
-    Ok(entries)
 }
 
 fn obligations_of(
@@ -146,14 +146,13 @@ fn obligations_of(
     context: &Context,
     spec: &Spec,
     step: &Step,
-) -> Result<Items<Sequent>, TreeError>
-    ensures { IfOk result (λ qs. qs ≡ (applied context.now spec.now step.now).obligations) }
+) -> Result<Items<Sequent>, ApplyError>
+    ensures ok { IfOk result (λ qs. FitsWith (law_at context.now spec.now step.now) (λ a. qs ≡ a.obligations)) }
+    ensures few { IfOk result (λ qs. length qs ≤ 1) }
+    ensures err { IfErr result (λ e. (e ≡ ApplyError.Memory) ⊎ MisfitsBy (law_at context.now spec.now step.now) (λ m. e ≡ ApplyError.Misfit m)) }
 {
     match step {
-        Step::Basic(step) => match obligations(alloc, context, spec, step) {
-            Ok(obligations) => Ok(obligations),
-            Err(_) => Err(TreeError::Memory),
-        },
+        Step::Basic(step) => obligations(alloc, context, spec, step),
     }
 }
 
@@ -200,19 +199,6 @@ fn state_of<L: Ledger>(
             Ok(Verdict::Good) => Ok(NeedState::Good),
             Ok(Verdict::Bad { line, sub, cause }) => Ok(NeedState::Bad(line, sub, cause)),
             Err(_) => Err(TreeError::Memory),
-        },
-    }
-}
-
-fn status_at(parts: &Parts, needs: &[Need]) -> Status
-    requires { length needs.now < u32.MAX }
-    ensures { result ≡ status_at parts.now.root parts.now.main.step needs.now }
-{
-    match &parts.root {
-        None => Status::NoSpec,
-        Some(_) => match &parts.main.step {
-            None => Status::Open,
-            Some(_) => pending(needs),
         },
     }
 }

@@ -3,7 +3,8 @@
 
 pub mod anew;
 pub mod edit;
+pub mod globals;
 pub mod parts;
 pub mod refusal;
+pub mod root;
 pub mod status;
-pub mod unknown;

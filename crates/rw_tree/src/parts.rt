@@ -2,13 +2,14 @@
 
 ghost use Rattle.std.specs.Prelude.{◌≡◌, ◌≤◌, ◌⊎◌, List, [], ◌∷◌, OnOk, OnErr, IfOk, IfErr, length, take, replicate, Some, None};
 ghost use Rattle.rw_tree.specs.Edits.{obligations_of};
-ghost use Rattle.rw_tree.specs.Refusals.{refusal_of, too_long};
+ghost use Rattle.rw_tree.specs.Refusals.{refusal_of, too_long, var_refusal};
 ghost use Rattle.rw_tree.specs.Parts.{Makes, resized, with_step, with_cert, applied_to, refusal_in, no_node, no_obligation};
 ghost use Rattle.rw_tree.specs.declared.edit.Edit.{Edit};
 
 use crate::edit::{Edit, Place, Step};
+use crate::globals::is_param;
 use crate::refusal::{EditRefusal, Which};
-use crate::unknown::{is_param, spec_unknown};
+use crate::root::{MOST_GLOBALS, root_refusal};
 use rw_items::Items;
 use rw_programs::prog::{Param, Spec};
 use rw_sequents::line::Cert;
@@ -66,8 +67,8 @@ fn refusal_in(alloc: Global, parts: &Parts, edit: &Edit) -> Result<Option<EditRe
     ensures { IfOk result (λ refusal. refusal ≡ refusal_in parts.now edit.now) }
 {
     match edit {
-        Edit::Var(param) => Ok(duplicate(parts, param)),
-        Edit::Root(spec) => Ok(unknown(parts, spec)),
+        Edit::Var(param) => Ok(var_refusal(parts.globals.as_slice(), param)),
+        Edit::Root(spec) => refusal_of_root(alloc, parts, spec),
         Edit::Step(place, _) => no_node(alloc, place),
         Edit::Prove(place, number, cert) => match no_node(alloc, place)? {
             Some(refusal) => Ok(Some(refusal)),
@@ -76,23 +77,26 @@ fn refusal_in(alloc: Global, parts: &Parts, edit: &Edit) -> Result<Option<EditRe
     }
 }
 
-fn duplicate(parts: &Parts, param: &Param) -> Option<EditRefusal>
-    ensures { result ≡ refusal_in parts.now (Edit.Var param.now) }
+fn var_refusal(globals: &[Param], param: &Param) -> Option<EditRefusal>
+    ensures { result ≡ var_refusal globals.now param.now }
 {
-    if is_param(parts.globals.as_slice(), &param.name) {
-        Some(EditRefusal::Duplicate(param.name.copy()))
-    } else {
-        None
+    if is_param(globals, &param.name) {
+        return Some(EditRefusal::Duplicate(param.name.copy()));
     }
+    if globals.len() >= MOST_GLOBALS as usize {
+        return Some(EditRefusal::Limit(Which::Globals, MOST_GLOBALS));
+    }
+    None
 }
 
-fn unknown(parts: &Parts, spec: &Spec) -> Option<EditRefusal>
-    ensures { result ≡ refusal_in parts.now (Edit.Root spec.now) }
+fn refusal_of_root(
+    alloc: Global,
+    parts: &Parts,
+    spec: &Spec,
+) -> Result<Option<EditRefusal>, AllocError>
+    ensures { IfOk result (λ refusal. refusal ≡ refusal_in parts.now (Edit.Root spec.now)) }
 {
-    match spec_unknown(parts.globals.as_slice(), spec) {
-        Some(name) => Some(EditRefusal::Unknown(name.copy())),
-        None => None,
-    }
+    root_refusal(alloc, parts.globals.as_slice(), spec)
 }
 
 // No step has kids yet, so the root is the one node.

@@ -35,6 +35,8 @@ pub enum EditRefusal {
     Unknown(Name),
     /// A name that is declared already.
     Duplicate(Name),
+    /// The part of this number is ill-formed; the frame is part 0.
+    Sort(u32),
     /// The place is no node.
     NoNode(Place),
     /// The node has no obligation of this number.

@@ -37,6 +37,13 @@ pub enum Status {
     Good,
 }
 
+/// The status of a node, and its obligations with their states.
+#[derive(Drop)]
+pub struct Judgement {
+    pub status: Status,
+    pub needs: Items<Need>,
+}
+
 /// What checking tells of a node.
 #[derive(Drop)]
 pub struct NodeMark {

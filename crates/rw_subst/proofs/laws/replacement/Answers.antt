@@ -1,4 +1,5 @@
 use Rattle.rw_subst.proofs.Replacing.{replacement_keeps_values, replacement_keeps_truth, replacement_in_states, replacement_holds_in_states, initial_changes_are_closed}
+use Rattle.rw_subst.proofs.Initially.{current_for_initial}
 use Rattle.rw_subst.proofs.laws.replacement.Goals as goal
 
 pub returns : goal.returns
@@ -8,4 +9,5 @@ returns c = record {
   values_in_states = replacement_in_states;
   truth_in_states = replacement_holds_in_states;
   initial = initial_changes_are_closed;
+  current = current_for_initial;
 }

@@ -10,3 +10,6 @@ pub returns-clause-made : goal.returns-clause-made
 returns-clause-made c = λ l m.
     let none : refusal_in c.args.parts.now c.args.edit.now ≡ None = sym c.in_ok-refusal.ensures ∙ c.in_default.is in
     subst (λ parts. Makes (c.args.edit.now ∷ l) parts) (sym (c.in_ok-apply_to.ensures.ok none)) (applied_makes l c.args.parts.now m c.args.edit.now none)
+
+pub returns-clause-accepted : goal.returns-clause-accepted
+returns-clause-accepted c = λ l m. sym (refusal_same l c.args.parts.now m c.args.edit.now) ∙ (sym c.in_ok-refusal.ensures ∙ c.in_default.is)

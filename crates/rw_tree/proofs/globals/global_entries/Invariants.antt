@@ -1,6 +1,6 @@
 use Rattle.std.proofs.Common.{◌≡◌, take, map}
-use Rattle.rw_tree.specs.Anew.{global}
-use Rattle.rw_tree.proofs.anew.global_entries.Given as goal
+use Rattle.rw_tree.specs.Edits.{global}
+use Rattle.rw_tree.proofs.globals.global_entries.Given as goal
 
 abbrev pub invariant-loop-param : goal.invariant-loop-param
 invariant-loop-param l = l.entries ≡ map global (take l.param-index l.globals)
