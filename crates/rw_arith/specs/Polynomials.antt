@@ -1,0 +1,76 @@
+-- Polynomials: lists of summands, the constant first and left out where it is 0, and then the products in the order in which they first came.
+use Rattle.std.specs.Prelude.{ℕ, zero, suc, ◌^◌, ◌+◌, Bool, true, false, cond, not, ◌&&◌, nat_eq, nat_lt, leb, ℤ, pos, negsuc, neg_ℤ, ◌+ℤ◌, ◌*ℤ◌, List, [], ◌∷◌, ◌++◌, map, length, count_by, remove, slice_set, Option, Some, None}
+use Rattle.std.specs.List.{list_all}
+use Rattle.rw_terms.specs.declared.term.Term.{Term}
+use Rattle.rw_arith.specs.declared.poly.Summand.{Summand}
+use Rattle.rw_arith.specs.declared.poly.Expansion.{Expansion}
+use Rattle.rw_arith.specs.declared.poly.Expansion.TheVariants.{Polynomial, Unfit, Wide}
+use Rattle.rw_arith.specs.Same.{same_term}
+
+-- within 128 bits
+abbrev pub is_narrow : ℤ → Bool
+is_narrow (pos n) = nat_lt n (2 ^ 127)
+is_narrow (negsuc n) = nat_lt n (2 ^ 127)
+
+abbrev pub is_zero : ℤ → Bool
+is_zero (pos zero) = true
+is_zero (pos (suc n)) = false
+is_zero (negsuc n) = false
+
+-- how often an atom stands in a product
+abbrev pub count : Term → List Term → ℕ
+count t atoms = count_by (same_term t) atoms
+
+-- an atom stands as often in one product as in the other
+abbrev pub as_often : List Term → List Term → Term → Bool
+as_often ones others t = nat_eq (count t ones) (count t others)
+
+-- two products are one where they have the same atoms, each as often
+abbrev pub is_one_product : List Term → List Term → Bool
+is_one_product ones others = nat_eq (length ones) (length others) && list_all (as_often ones others) ones
+
+-- what was found, so many places further
+abbrev pub further : ℕ → Option (ℕ × ℤ) → Option (ℕ × ℤ)
+further n None = None
+further n (Some found) = Some (n + found.0, found.1)
+
+-- where the product of these atoms stands, with its coefficient
+abbrev pub place : List Term → List Summand → Option (ℕ × ℤ)
+place atoms [] = None
+place atoms (s ∷ ss) = cond (is_one_product s.atoms atoms) (Some (0, s.times)) (further 1 (place atoms ss))
+
+abbrev pub has_atoms : List Term → Bool
+has_atoms [] = false
+has_atoms (t ∷ ts) = true
+
+-- the constant is no product
+abbrev pub is_product : Summand → Bool
+is_product s = has_atoms s.atoms
+
+-- a polynomial has at most 256 products
+abbrev pub within_limit : List Summand → Expansion
+within_limit p = cond (leb (count_by is_product p) 256) (Polynomial p) Unfit
+
+-- the constant goes before the products, and a product behind those before it
+abbrev pub put_by : List Term → List Summand → Summand → List Summand
+put_by [] p new = new ∷ p
+put_by (t ∷ ts) p new = p ++ new ∷ []
+
+-- a summand whose product is not there; what has coefficient 0 is left out
+abbrev pub put_in : List Summand → Summand → Expansion
+put_in p new = within_limit (cond (is_zero new.times) p (put_by new.atoms p new))
+
+-- the summand at a place, with another coefficient; what gets coefficient 0 is taken out
+abbrev pub changed_to : ℤ → List Summand → ℕ → Summand → List Summand
+changed_to sum p at new = cond (is_zero sum) (remove p at) (slice_set p at (record new { times = sum }))
+
+abbrev pub joined : List Summand → ℕ → ℤ → Summand → Expansion
+joined p at times new = cond (is_narrow (times +ℤ new.times)) (within_limit (changed_to (times +ℤ new.times) p at new)) Wide
+
+abbrev pub added : Option (ℕ × ℤ) → List Summand → Summand → Expansion
+added None p new = put_in p new
+added (Some found) p new = joined p found.0 found.1 new
+
+-- one summand more: it is added to the coefficient of its product, or put in where that is not there
+abbrev pub with_summand : List Summand → Summand → Expansion
+with_summand p new = added (place new.atoms p) p new
