@@ -1,1 +1,4 @@
 pub mod Same
+pub mod Steps
+pub mod Negations
+pub mod Expanding

@@ -74,3 +74,59 @@ added (Some found) p new = joined p found.0 found.1 new
 -- one summand more: it is added to the coefficient of its product, or put in where that is not there
 abbrev pub with_summand : List Summand → Summand → Expansion
 with_summand p new = added (place new.atoms p) p new
+
+-- a step from a polynomial, where there is one
+abbrev pub and_then : Expansion → (List Summand → Expansion) → Expansion
+and_then (Polynomial p) step = step p
+and_then Unfit step = Unfit
+and_then Wide step = Wide
+
+-- a step for each summand of a list, in order
+abbrev pub for_each : (List Summand → Summand → Expansion) → List Summand → Expansion → Expansion
+for_each step [] e = e
+for_each step (s ∷ ss) e = for_each step ss (and_then e (λ p. step p s))
+
+-- a sum adds the right one's summands, one after the other, to the left one's
+abbrev pub sum : Expansion → Expansion → Expansion
+sum a b = and_then a (λ p. and_then b (λ q. for_each with_summand q (Polynomial p)))
+
+abbrev pub is_negatable : Summand → Bool
+is_negatable s = is_narrow (neg_ℤ s.times)
+
+abbrev pub negated_summand : Summand → Summand
+negated_summand s = record s { times = neg_ℤ s.times }
+
+abbrev pub negated_polynomial : List Summand → Expansion
+negated_polynomial p = cond (list_all is_negatable p) (Polynomial (map negated_summand p)) Wide
+
+-- a negation negates the summands
+abbrev pub negated : Expansion → Expansion
+negated a = and_then a negated_polynomial
+
+-- a difference negates the right one's summands first and is then a sum
+abbrev pub difference : Expansion → Expansion → Expansion
+difference a b = sum a (negated b)
+
+-- a product of two summands has the atoms of both
+abbrev pub multiplied : Summand → Summand → Summand
+multiplied l r = record { times = l.times *ℤ r.times; atoms = l.atoms ++ r.atoms }
+
+-- the product of two summands more: its factors, of which there are at most 16, are counted before its coefficient is made
+abbrev pub with_product : Summand → List Summand → Summand → Expansion
+with_product l p r = cond (leb (length l.atoms + length r.atoms) 16) (cond (is_narrow (l.times *ℤ r.times)) (with_summand p (multiplied l r)) Wide) Unfit
+
+-- the products of one summand with each of the right ones, added to the results before
+abbrev pub with_products : List Summand → List Summand → Summand → Expansion
+with_products q p l = for_each (with_product l) q (Polynomial p)
+
+-- a product takes the left one's summands in order, and for each of them the right one's in order
+abbrev pub product : Expansion → Expansion → Expansion
+product a b = and_then a (λ p. and_then b (λ q. for_each (with_products q) p (Polynomial [])))
+
+-- a multiple of a summand more
+abbrev pub with_multiple : ℤ → List Summand → Summand → Expansion
+with_multiple m p s = cond (is_narrow (s.times *ℤ m)) (with_summand p (record s { times = s.times *ℤ m })) Wide
+
+-- the summands of a polynomial are multiplied in order, and each result is added to those before
+abbrev pub with_multiples : ℤ → List Summand → Expansion → Expansion
+with_multiples m q e = for_each (with_multiple m) q e

@@ -2,5 +2,8 @@
 #![tactic(auto)]
 
 pub mod error;
+pub mod expand;
 pub mod line;
 pub mod poly;
+pub mod products;
+pub mod sums;

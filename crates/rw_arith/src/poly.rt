@@ -5,6 +5,7 @@ ghost use Rattle.rw_arith.specs.Same.{same_term};
 ghost use Rattle.rw_arith.specs.Polynomials.{is_one_product, is_product, place, within_limit, put_in, joined, with_summand};
 
 use rw_items::Items;
+use rw_terms::copying::copy_terms;
 use rw_terms::sameness;
 use rw_terms::term::Term;
 use std::alloc::{AllocError, Global};
@@ -16,6 +17,18 @@ const MOST_PRODUCTS: usize = 256;
 pub struct Summand {
     pub times: i128,
     pub atoms: Items<Term>,
+}
+
+impl Summand {
+    /// The same summand again.
+    pub fn copy(&self, alloc: Global) -> Result<Summand, AllocError>
+        ensures { IfOk result (λ s. s ≡ self.now) }
+    {
+        Ok(Summand {
+            times: self.times,
+            atoms: copy_terms(alloc, self.atoms.as_slice())?,
+        })
+    }
 }
 
 /// What an expansion gives.
