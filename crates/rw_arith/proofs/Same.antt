@@ -14,11 +14,11 @@ decided true false e f g = sym (g (e.0 refl))
 decided false true e f g = e.1 (f refl)
 decided false false e f g = refl
 
-both_left : (a b : Bool) → (a && b) ≡ true → a ≡ true
+pub both_left : (a b : Bool) → (a && b) ≡ true → a ≡ true
 both_left true b e = refl
 both_left false b e = e
 
-both_right : (a b : Bool) → (a && b) ≡ true → b ≡ true
+pub both_right : (a b : Bool) → (a && b) ≡ true → b ≡ true
 both_right true b e = e
 both_right false b e = absurd (true≢false (sym e))
 

@@ -1,11 +1,16 @@
-use Rattle.std.proofs.Common.{sym, ap, ◌∙◌}
+use Rattle.std.proofs.Common.{sym, ap, ◌∙◌, rules, FitsSigned, to_z, of_z}
+use Rattle.std.specs.Int.{w128}
+use Rattle.std.proofs.lemmas.Int.{to_z-of_z}
 use Rattle.rw_arith.specs.Polynomials.{sum, difference, product, negated}
 use Rattle.rw_arith.specs.Expanded.{constant, atom, expanded}
 use Rattle.rw_arith.proofs.Expanding.{expands_lit, expands_neg, expands_add, expands_sub, expands_mul, names_expand, others_expand, none_expands, is_then}
 use Rattle.rw_arith.proofs.expand.+expand.Goals as goal
 
 pub returns-in-Lit : goal.returns-in-Lit
-returns-in-Lit t c = is_then c.constant.result (constant c.in-Lit.n) (expanded c.args.term.now) (sym (expands_lit c.in-Lit.n) ∙ ap expanded (sym c.in-Lit.is)) c.constant.ensures
+returns-in-Lit t c =
+    let fits : FitsSigned w128 c.in-Lit.n = search rules in
+    is_then c.constant.result (constant (to_z w128 (of_z w128 c.in-Lit.n))) (expanded c.args.term.now)
+    (ap constant (to_z-of_z w128 c.in-Lit.n fits) ∙ sym (expands_lit c.in-Lit.n) ∙ ap expanded (sym c.in-Lit.is)) c.constant.ensures
 
 pub returns-in_ok-inner-in-Neg : goal.returns-in_ok-inner-in-Neg
 returns-in_ok-inner-in-Neg t c =
