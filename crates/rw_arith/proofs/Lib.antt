@@ -5,3 +5,4 @@ pub mod Expanding
 pub mod Integers
 pub mod Multisets
 pub mod Values
+pub mod ExpansionLaws

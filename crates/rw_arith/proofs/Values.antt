@@ -109,7 +109,7 @@ module _ (of_atom : Term → ℤ) where
   set_first x s r = omega (arith, ints)
 
   same_one : (x s : Summand) → Some x ≡ Some s → one x ≡ one s
-  same_one x s e = ap one (cc)
+  same_one x s e = let same : x ≡ s = cc in ap one same
 
   set_value : (p : List Summand) (at : ℕ) (s x : Summand) → slice_get p at ≡ Some s → val (slice_set p at x) +ℤ one s ≡ val p +ℤ one x
   set_value [] at s x e = cc

@@ -3,6 +3,7 @@
 
 pub mod error;
 pub mod expand;
+pub mod laws;
 pub mod line;
 pub mod poly;
 pub mod products;

@@ -1,0 +1,13 @@
+//! Laws of the definitions. A caller learns them from the contract; the calls do nothing.
+
+ghost use Rattle.rw_arith.specs.Laws.{OneProductLaw, ExpansionLaw};
+
+/// Products of the same atoms, each as often, have one value.
+pub fn products()
+    ensures { OneProductLaw }
+{}
+
+/// The value of a term's polynomial is the term's value, in every two states and over unbounded integers.
+pub fn expansion()
+    ensures { ExpansionLaw }
+{}
