@@ -6,3 +6,4 @@ pub mod Integers
 pub mod Multisets
 pub mod Values
 pub mod ExpansionLaws
+pub mod GivenLaws

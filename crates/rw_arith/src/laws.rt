@@ -1,6 +1,6 @@
 //! Laws of the definitions. A caller learns them from the contract; the calls do nothing.
 
-ghost use Rattle.rw_arith.specs.Laws.{OneProductLaw, ExpansionLaw};
+ghost use Rattle.rw_arith.specs.Laws.{OneProductLaw, ExpansionLaw, LeftLaw, RightLaw};
 
 /// Products of the same atoms, each as often, have one value.
 pub fn products()
@@ -10,4 +10,10 @@ pub fn products()
 /// The value of a term's polynomial is the term's value, in every two states and over unbounded integers.
 pub fn expansion()
     ensures { ExpansionLaw }
+{}
+
+/// What a left formula gives holds where the formula is true, and what a right one gives where it is false.
+pub fn given()
+    ensures left { LeftLaw }
+    ensures right { RightLaw }
 {}

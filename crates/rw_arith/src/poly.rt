@@ -108,7 +108,8 @@ fn counted(polynomial: Items<Summand>) -> Expansion
     Expansion::Polynomial(polynomial)
 }
 
-fn is_product(summand: &Summand) -> bool
+/// Whether it is no constant.
+pub fn is_product(summand: &Summand) -> bool
     ensures { result ≡ is_product summand.now }
 {
     !summand.atoms.is_empty()
