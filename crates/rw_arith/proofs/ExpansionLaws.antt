@@ -23,7 +23,7 @@ use Rattle.rw_arith.proofs.Values.{zero_is, weaker, sum_value, negated_value, di
 nothing_more : (n : ℤ) → n +ℤ pos 0 ≡ n
 nothing_more n = omega (arith, ints)
 
-times_one : (n : ℤ) → n *ℤ pos 1 ≡ n
+pub times_one : (n : ℤ) → n *ℤ pos 1 ≡ n
 times_one n = *ℤ_comm n (pos 1) ∙ one_times n
 
 -- a number as a polynomial is worth it

@@ -1,6 +1,6 @@
 -- What formulas give holds where a left one is true and a right one is false.
 use Rattle.std.proofs.Common.{◌≡◌, ℤ, pos, ◌+ℤ◌, ◌-ℤ◌, ◌≤ℤ◌, ◌<ℤ◌, List, [], ◌∷◌, refl, sym, ◌∙◌, ap, subst, reverse, arith}
-use Rattle.std.proofs.lemmas.Int.{ints}
+use Rattle.std.proofs.lemmas.Int.{ints, by_lt_z}
 use Rattle.rw_terms.specs.declared.term.Term.{Term}
 use Rattle.rw_terms.specs.declared.term.Formula.{Formula}
 use Rattle.rw_terms.specs.declared.term.Formula.TheOpen.{Formula-F}
@@ -41,10 +41,10 @@ module _ (library : List Definition) (s0 s : State) (binders : List Value) where
   below x y z e h = omega (arith, ints)
 
   not_below : (x y z : ℤ) → z ≡ x -ℤ y → ¬ (x <ℤ y) → pos 0 ≤ℤ z
-  not_below x y z e h = omega (arith, ints)
+  not_below x y z e h = by_lt_z x y (λ l. absurd (h l)) (λ g. omega (arith, ints))
 
   not_at_most : (x y z : ℤ) → z ≡ (x -ℤ y) -ℤ pos 1 → ¬ (x ≤ℤ y) → pos 0 ≤ℤ z
-  not_at_most x y z e h = omega (arith, ints)
+  not_at_most x y z e h = by_lt_z y x (λ l. omega (arith, ints)) (λ g. absurd (h g))
 
   abbrev truth : Formula-F Formula → Type 0
   truth x = layer_truth (predicates_of (reverse library)) (value_in s) (value_in s0) (value_in s) x binders
@@ -81,10 +81,10 @@ module _ (library : List Definition) (s0 s : State) (binders : List Value) where
   holding f = holds library f s0 s binders
 
   opened : (f : Formula) → holding f → truth (out-Formula f)
-  opened f h = to_layer _ _ _ _ (out-Formula f) binders (subst holding (sym (roll-out-Formula f)) h)
+  opened f h = to_layer (predicates_of (reverse library)) (value_in s) (value_in s0) (value_in s) (out-Formula f) binders (subst holding (sym (roll-out-Formula f)) h)
 
   closed : (f : Formula) → truth (out-Formula f) → holding f
-  closed f h = subst holding (roll-out-Formula f) (from_layer _ _ _ _ (out-Formula f) binders h)
+  closed f h = subst holding (roll-out-Formula f) (from_layer (predicates_of (reverse library)) (value_in s) (value_in s0) (value_in s) (out-Formula f) binders h)
 
 pub left_law : LeftLaw
 left_law library s0 s binders f h = left_says library s0 s binders (out-Formula f) (opened library s0 s binders f h)

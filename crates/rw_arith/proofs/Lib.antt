@@ -7,3 +7,5 @@ pub mod Multisets
 pub mod Values
 pub mod ExpansionLaws
 pub mod GivenLaws
+pub mod Dividing
+pub mod Refuting
