@@ -7,9 +7,10 @@ use Rattle.rw_terms.specs.declared.term.Term.{Term}
 use Rattle.rw_arith.specs.declared.poly.Summand.{Summand}
 use Rattle.rw_arith.specs.declared.poly.Expansion.{Expansion}
 use Rattle.rw_arith.specs.declared.poly.Expansion.TheVariants.{Polynomial, Unfit, Wide}
-use Rattle.rw_arith.specs.Polynomials.{is_narrow, is_zero, is_one_product, further, place, within_limit, put_by, put_in, changed_to, joined, added, with_summand, and_then, for_each, sum, is_negatable, negated_summand, negated_polynomial, negated, difference, multiplied, with_product, with_products, product, with_multiple, with_multiples}
+use Rattle.rw_arith.specs.Polynomials.{is_narrow, is_zero, is_one_product, further, place, within_limit, put_by, put_in, times_set, changed_to, joined, added, with_summand, and_then, for_each, sum, is_negatable, negated_summand, negated_polynomial, negated, difference, multiplied, with_product, with_products, product, with_multiple, with_multiples}
 use Rattle.rw_arith.specs.Values.{product_value, summand_value, polynomial_value, IfPolynomial}
 use Rattle.rw_arith.proofs.Integers.{spreads, spreads_left, negates, groups, crosses, one_times}
+use Rattle.rw_arith.proofs.Steps.{times_set_is}
 use Rattle.rw_arith.proofs.Multisets.{one_product_law}
 
 pub zero_is : (z : ℤ) → is_zero z ≡ true → z ≡ pos 0
@@ -128,8 +129,9 @@ module _ (of_atom : Term → ℤ) where
   remove_value (y ∷ p) (suc at) s e = gone_step (one y) _ (one s) _ (remove_value p at s e)
 
   -- a coefficient that is the sum of two is worth the sum of both
-  both_times : (a : ℤ) (s new : Summand) → s.times ≡ a → is_one_product s.atoms new.atoms ≡ true → (a +ℤ new.times) *ℤ pv new.atoms ≡ one s +ℤ one new
-  both_times a s new e h = spreads a new.times (pv new.atoms) ∙ (λ i. (sym e i *ℤ sym (one_product_law of_atom s.atoms new.atoms h) i) +ℤ one new)
+  both_times : (a : ℤ) (s new : Summand) → s.times ≡ a → is_one_product s.atoms new.atoms ≡ true → (a +ℤ new.times) *ℤ pv s.atoms ≡ one s +ℤ one new
+  both_times a s new e h =
+      spreads a new.times (pv s.atoms) ∙ (λ i. (sym e i *ℤ pv s.atoms) +ℤ (new.times *ℤ one_product_law of_atom s.atoms new.atoms h i))
 
   removed : (v s n w : ℤ) → v +ℤ s ≡ w → s +ℤ n ≡ pos 0 → v ≡ w +ℤ n
   removed v s n w e f = omega (arith, ints)
@@ -138,12 +140,13 @@ module _ (of_atom : Term → ℤ) where
   replaced v s n w x e f = omega (arith, ints)
 
   changed_case : (b : Bool) (p : List Summand) (at : ℕ) (a : ℤ) (s new : Summand) → is_zero (a +ℤ new.times) ≡ b → slice_get p at ≡ Some s → s.times ≡ a →
-      is_one_product s.atoms new.atoms ≡ true → val (cond b (remove p at) (slice_set p at (record new { times = a +ℤ new.times }))) ≡ val p +ℤ one new
+      is_one_product s.atoms new.atoms ≡ true → val (cond b (remove p at) (times_set p at (a +ℤ new.times))) ≡ val p +ℤ one new
   changed_case true p at a s new z e t h =
       removed _ (one s) (one new) (val p) (remove_value p at s e)
-      (sym (both_times a s new t h) ∙ ap (λ y. y *ℤ pv new.atoms) (zero_is (a +ℤ new.times) z) ∙ zero-*ℤ (pv new.atoms))
+      (sym (both_times a s new t h) ∙ ap (λ y. y *ℤ pv s.atoms) (zero_is (a +ℤ new.times) z) ∙ zero-*ℤ (pv s.atoms))
   changed_case false p at a s new z e t h =
-      replaced _ (one s) (one new) (val p) _ (set_value p at s (record new { times = a +ℤ new.times }) e) (both_times a s new t h)
+      ap val (times_set_is p at s (a +ℤ new.times) e)
+      ∙ replaced _ (one s) (one new) (val p) _ (set_value p at s (record s { times = a +ℤ new.times }) e) (both_times a s new t h)
 
   abbrev More : List Summand → ℤ → Expansion → Type 0
   More p n e = IfPolynomial e (λ r. val r ≡ val p +ℤ n)

@@ -1,14 +1,16 @@
 -- What polynomials say of the terms that they come from.
-use Rattle.std.specs.Prelude.{◌≡◌, Bool, true, ℤ, pos, ◌≤ℤ◌, List}
+use Rattle.std.specs.Prelude.{◌≡◌, Bool, true, ℤ, pos, ◌≤ℤ◌, List, None}
 use Rattle.rw_terms.specs.declared.term.Term.{Term}
 use Rattle.rw_terms.specs.declared.term.Formula.{Formula}
 use Rattle.rw_terms.specs.declared.term.Formula.TheOpen.{Formula-F}
 use Rattle.rw_terms.specs.declared.term.Formula.TheViews.{out-Formula}
 use Rattle.rw_terms.specs.State.{Value, State}
 use Rattle.rw_terms.specs.Truth.{Definition, holds}
+use Rattle.rw_arith.specs.declared.line.LinLine.{LinLine}
 use Rattle.rw_arith.specs.Polynomials.{is_one_product}
 use Rattle.rw_arith.specs.Expanded.{expanded}
 use Rattle.rw_arith.specs.Given.{given_by_left, given_by_right}
+use Rattle.rw_arith.specs.Lines.{lines_fault, Refuted}
 use Rattle.rw_arith.specs.Values.{product_value, polynomial_value, IfPolynomial, integer}
 
 -- products that are one have one value, whatever their atoms stand for
@@ -35,3 +37,7 @@ abbrev pub RightLaw : Type 0
 RightLaw =
     (library : List Definition) (s0 s : State) (binders : List Value) (f : Formula) → ¬ (holds library f s0 s binders) →
     IfPolynomial (given_by_right f) (λ p. pos 0 ≤ℤ polynomial_value (integer s0 s binders) p)
+
+-- lines without a fault refute that all left formulas are true and all right ones false
+abbrev pub RefutationLaw : Type 0
+RefutationLaw = (left right : List Formula) (lines : List LinLine) → lines_fault left right lines ≡ None → Refuted left right

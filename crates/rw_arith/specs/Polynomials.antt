@@ -1,5 +1,5 @@
 -- Polynomials: lists of summands, the constant first and left out where it is 0, and then the products in the order in which they first came.
-use Rattle.std.specs.Prelude.{ℕ, zero, suc, ◌^◌, ◌+◌, Bool, true, false, cond, not, ◌&&◌, nat_eq, nat_lt, leb, ℤ, pos, negsuc, neg_ℤ, ◌+ℤ◌, ◌*ℤ◌, List, [], ◌∷◌, ◌++◌, map, length, count_by, remove, slice_set, Option, Some, None}
+use Rattle.std.specs.Prelude.{ℕ, zero, suc, ◌^◌, ◌+◌, Bool, true, false, cond, not, ◌&&◌, nat_eq, nat_lt, leb, ℤ, pos, negsuc, neg_ℤ, ◌+ℤ◌, ◌*ℤ◌, List, [], ◌∷◌, ◌++◌, map, length, count_by, remove, Option, Some, None}
 use Rattle.std.specs.List.{list_all}
 use Rattle.rw_terms.specs.declared.term.Term.{Term}
 use Rattle.rw_arith.specs.declared.poly.Summand.{Summand}
@@ -60,12 +60,19 @@ put_by (t ∷ ts) p new = p ++ new ∷ []
 abbrev pub put_in : List Summand → Summand → Expansion
 put_in p new = within_limit (cond (is_zero new.times) p (put_by new.atoms p new))
 
--- the summand at a place, with another coefficient; what gets coefficient 0 is taken out
-abbrev pub changed_to : ℤ → List Summand → ℕ → Summand → List Summand
-changed_to sum p at new = cond (is_zero sum) (remove p at) (slice_set p at (record new { times = sum }))
+-- another coefficient for the summand at a place
+abbrev pub times_set : List Summand → ℕ → ℤ → List Summand
+times_set [] at times = []
+times_set (s ∷ ss) zero times = record s { times = times } ∷ ss
+times_set (s ∷ ss) (suc at) times = s ∷ times_set ss at times
 
+-- what gets coefficient 0 is taken out
+abbrev pub changed_to : List Summand → ℕ → ℤ → List Summand
+changed_to p at times = cond (is_zero times) (remove p at) (times_set p at times)
+
+-- a coefficient added to that of the summand at a place
 abbrev pub joined : List Summand → ℕ → ℤ → Summand → Expansion
-joined p at times new = cond (is_narrow (times +ℤ new.times)) (within_limit (changed_to (times +ℤ new.times) p at new)) Wide
+joined p at times new = cond (is_narrow (times +ℤ new.times)) (within_limit (changed_to p at (times +ℤ new.times))) Wide
 
 abbrev pub added : Option (ℕ × ℤ) → List Summand → Summand → Expansion
 added None p new = put_in p new

@@ -1,6 +1,6 @@
 //! Laws of the definitions. A caller learns them from the contract; the calls do nothing.
 
-ghost use Rattle.rw_arith.specs.Laws.{OneProductLaw, ExpansionLaw, LeftLaw, RightLaw};
+ghost use Rattle.rw_arith.specs.Laws.{OneProductLaw, ExpansionLaw, LeftLaw, RightLaw, RefutationLaw};
 
 /// Products of the same atoms, each as often, have one value.
 pub fn products()
@@ -16,4 +16,9 @@ pub fn expansion()
 pub fn given()
     ensures left { LeftLaw }
     ensures right { RightLaw }
+{}
+
+/// Lines without a fault refute: no two states make all left formulas true and all right ones false.
+pub fn refutation()
+    ensures { RefutationLaw }
 {}

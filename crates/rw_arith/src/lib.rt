@@ -11,3 +11,5 @@ pub mod lines;
 pub mod poly;
 pub mod products;
 pub mod sums;
+#[cfg(test)]
+mod tests;

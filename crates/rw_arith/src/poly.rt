@@ -2,7 +2,7 @@
 
 ghost use Rattle.std.specs.Prelude.{◌≡◌, ◌<◌, length, count_by, IfSome, IfOk};
 ghost use Rattle.rw_arith.specs.Same.{same_term};
-ghost use Rattle.rw_arith.specs.Polynomials.{is_one_product, is_product, place, within_limit, put_in, joined, with_summand};
+ghost use Rattle.rw_arith.specs.Polynomials.{is_one_product, is_product, place, within_limit, put_in, times_set, joined, with_summand};
 
 use rw_items::Items;
 use rw_terms::copying::copy_terms;
@@ -65,16 +65,18 @@ fn join(polynomial: Items<Summand>, at: usize, times: i128, new: Summand) -> Exp
             counted(polynomial)
         }
         Some(sum) => {
-            polynomial.set(
-                at,
-                Summand {
-                    times: sum,
-                    atoms: new.atoms,
-                },
-            );
+            set_times(&mut polynomial, at, sum);
             counted(polynomial)
         }
     }
+}
+
+// Gives the summand at a place another coefficient.
+fn set_times(polynomial: &mut Items<Summand>, at: usize, times: i128)
+    requires { at < length polynomial.old }
+    ensures { polynomial.new ≡ times_set polynomial.old at times }
+{
+    polynomial.item_mut(at).times = times;
 }
 
 // Puts a summand whose product is not there behind the others, and a constant before them.
