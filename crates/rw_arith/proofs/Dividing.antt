@@ -106,7 +106,7 @@ module _ (of_atom : Term → ℤ) where
         let v = val (map (quotient_of d) p) in
         let start : pos 0 ≤ℤ (s.times +ℤ val p) = subst (λ z. pos 0 ≤ℤ (z +ℤ val p)) (is_times s.times s e) h in
         let all : pos 0 ≤ℤ ((d *ℤ (q s +ℤ v)) +ℤ rest_of s) =
-            subst (λ z. pos 0 ≤ℤ (z +ℤ rest_of s)) (sym (spreads_left d (q s) v)) (together (d *ℤ q s) (d *ℤ v) (rest_of s) s.times (val p) (pos 0) (whole_of s) (exact p f) start) in
+        subst (λ z. pos 0 ≤ℤ (z +ℤ rest_of s)) (sym (spreads_left d (q s) v)) (together (d *ℤ q s) (d *ℤ v) (rest_of s) s.times (val p) (pos 0) (whole_of s) (exact p f) start) in
         subst (λ z. pos 0 ≤ℤ (z +ℤ v)) (sym (is_times (q s) s e)) (low_rest d (q s +ℤ v) (rest_of s) positive (rest_of_positive s.times d positive).1 all)
 
     first_case : (b : Bool) (s : Summand) (p : List Summand) → is_product s ≡ b → (cond b (divides d s) true && list_all (divides d) p) ≡ true → AtLeast (s ∷ p)

@@ -13,6 +13,7 @@ use Rattle.rw_arith.specs.Polynomials.{is_zero, sum, negated, difference, produc
 abbrev pub constant : ℤ → Expansion
 constant n = Polynomial (cond (is_zero n) [] (record { times = n; atoms = [] } ∷ []))
 
+-- an atom as a polynomial
 abbrev pub atom : Term → Expansion
 atom t = Polynomial (record { times = pos 1; atoms = t ∷ [] } ∷ [])
 
@@ -54,5 +55,6 @@ is_polynomial_step (Term-F.Read _ _) = true
 is_polynomial_step (Term-F.Put _ _ _) = false
 is_polynomial_step (Term-F.Fun _ _) = true
 
+-- whether no `put` and no binder stands outside an atom
 abbrev pub is_polynomial : Term → Bool
 is_polynomial = fold-Term Bool is_polynomial_step

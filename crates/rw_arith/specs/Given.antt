@@ -9,6 +9,7 @@ use Rattle.rw_arith.specs.declared.poly.Expansion.TheVariants.{Unfit}
 use Rattle.rw_arith.specs.Polynomials.{difference}
 use Rattle.rw_arith.specs.Expanded.{constant, is_polynomial, expanded}
 
+-- at least 0
 abbrev pub is_non_negative : ℤ → Bool
 is_non_negative (pos n) = true
 is_non_negative (negsuc n) = false
@@ -28,6 +29,7 @@ left_layer (Formula-F.Less s t) = strictly_less_of t s
 left_layer (Formula-F.AtMost s t) = less_of t s
 left_layer _ = Unfit
 
+-- what a left formula gives; an equation of arrays is one too, whose array names are atoms
 abbrev pub given_by_left : Formula → Expansion
 given_by_left f = left_layer (out-Formula f)
 
@@ -37,9 +39,11 @@ right_layer (Formula-F.Less s t) = less_of s t
 right_layer (Formula-F.AtMost s t) = strictly_less_of s t
 right_layer _ = Unfit
 
+-- what a right formula gives
 abbrev pub given_by_right : Formula → Expansion
 given_by_right f = right_layer (out-Formula f)
 
+-- both terms are polynomials but for the limits
 abbrev pub are_polynomials : Term → Term → Bool
 are_polynomials s t = is_polynomial s && is_polynomial t
 
@@ -50,13 +54,16 @@ left_allows_layer m (Formula-F.Less s t) = is_non_negative m && are_polynomials 
 left_allows_layer m (Formula-F.AtMost s t) = is_non_negative m && are_polynomials s t
 left_allows_layer m _ = false
 
+-- whether so many times what a left formula gives may be taken
 abbrev pub left_allows : ℤ → Formula → Bool
 left_allows m f = left_allows_layer m (out-Formula f)
 
+-- the same of a right formula, which is an inequality
 abbrev pub right_allows_layer : ℤ → Formula-F Formula → Bool
 right_allows_layer m (Formula-F.Less s t) = is_non_negative m && are_polynomials s t
 right_allows_layer m (Formula-F.AtMost s t) = is_non_negative m && are_polynomials s t
 right_allows_layer m _ = false
 
+-- whether so many times what a right formula gives may be taken
 abbrev pub right_allows : ℤ → Formula → Bool
 right_allows m f = right_allows_layer m (out-Formula f)

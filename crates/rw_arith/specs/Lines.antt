@@ -24,10 +24,12 @@ abbrev pub numbered : {X : Type 0} → List X → ℕ → Option X
 numbered xs zero = None
 numbered xs (suc n) = slice_get xs n
 
+-- there is one, and it passes the test
 abbrev pub passes : {X : Type 0} → (X → Bool) → Option X → Bool
 passes test None = false
 passes test (Some x) = test x
 
+-- the expansion of what is there
 abbrev pub expansion_by : {X : Type 0} → (X → Expansion) → Option X → Expansion
 expansion_by e None = Unfit
 expansion_by e (Some x) = e x
@@ -39,6 +41,7 @@ module _ (left right : List Formula) (made : List (List Summand)) where
   ref_allows m (Right n) = passes (right_allows m) (numbered right n)
   ref_allows m (Line n) = passes (λ p. is_non_negative m) (numbered made n)
 
+  -- the same of a part
   abbrev pub is_allowed : Part → Bool
   is_allowed part = ref_allows part.times part.of
 
@@ -74,6 +77,7 @@ divides_all d (s ∷ ss) = cond (is_product s) (divides d s) true && list_all (d
 abbrev pub quotient_of : ℤ → Summand → Summand
 quotient_of d s = record s { times = div_floor s.times d }
 
+-- what has coefficient 0 is no summand
 abbrev pub is_there : Summand → Bool
 is_there s = not (is_zero s.times)
 
@@ -81,11 +85,13 @@ is_there s = not (is_zero s.times)
 abbrev pub quotients : ℤ → List Summand → List Summand
 quotients d p = filter is_there (map (quotient_of d) p)
 
+-- at least 1
 abbrev pub is_positive : ℤ → Bool
 is_positive (pos zero) = false
 is_positive (pos (suc n)) = true
 is_positive (negsuc n) = false
 
+-- a division by a number from 1 on that divides each coefficient but the constant
 abbrev pub divided : ℤ → List Summand → Expansion
 divided d p = cond (is_positive d && divides_all d p) (Polynomial (quotients d p)) Unfit
 
@@ -95,6 +101,7 @@ made_by k made (Polynomial p) = Ok (made ++ p ∷ [])
 made_by k made Unfit = Err (fault.BadLine k)
 made_by k made Wide = Err (fault.Wide k)
 
+-- the next step, where the one before gave polynomials
 abbrev pub if_made : Result (List (List Summand)) LinError → (List (List Summand) → Result (List (List Summand)) LinError) → Result (List (List Summand)) LinError
 if_made (Ok made) next = next made
 if_made (Err e) next = Err e
@@ -110,6 +117,7 @@ module _ (left right : List Formula) where
   all_made n [] made = Ok made
   all_made n (line ∷ lines) made = if_made (made_by (n + 1) made (line_expansion made line)) (all_made (n + 1) lines)
 
+-- below 0
 abbrev pub is_negative : ℤ → Bool
 is_negative (pos n) = false
 is_negative (negsuc n) = true
@@ -124,6 +132,7 @@ is_contradiction (s ∷ t ∷ ss) = false
 abbrev pub refutes : List (List Summand) → Bool
 refutes made = passes is_contradiction (numbered made (length made))
 
+-- the first line that fails, or the last one where it is no contradiction
 abbrev pub fault_of : ℕ → Result (List (List Summand)) LinError → Option LinError
 fault_of n (Err e) = Some e
 fault_of n (Ok made) = cond (refutes made) None (Some (fault.NotContradiction n))

@@ -12,6 +12,7 @@ abbrev pub is_narrow : ℤ → Bool
 is_narrow (pos n) = nat_lt n (2 ^ 127)
 is_narrow (negsuc n) = nat_lt n (2 ^ 127)
 
+-- it is 0
 abbrev pub is_zero : ℤ → Bool
 is_zero (pos zero) = true
 is_zero (pos (suc n)) = false
@@ -39,6 +40,7 @@ abbrev pub place : List Term → List Summand → Option (ℕ × ℤ)
 place atoms [] = None
 place atoms (s ∷ ss) = cond (is_one_product s.atoms atoms) (Some (0, s.times)) (further 1 (place atoms ss))
 
+-- there is an atom
 abbrev pub has_atoms : List Term → Bool
 has_atoms [] = false
 has_atoms (t ∷ ts) = true
@@ -74,6 +76,7 @@ changed_to p at times = cond (is_zero times) (remove p at) (times_set p at times
 abbrev pub joined : List Summand → ℕ → ℤ → Summand → Expansion
 joined p at times new = cond (is_narrow (times +ℤ new.times)) (within_limit (changed_to p at (times +ℤ new.times))) Wide
 
+-- a summand more, from where its product stands
 abbrev pub added : Option (ℕ × ℤ) → List Summand → Summand → Expansion
 added None p new = put_in p new
 added (Some found) p new = joined p found.0 found.1 new
@@ -97,12 +100,15 @@ for_each step (s ∷ ss) e = for_each step ss (and_then e (λ p. step p s))
 abbrev pub sum : Expansion → Expansion → Expansion
 sum a b = and_then a (λ p. and_then b (λ q. for_each with_summand q (Polynomial p)))
 
+-- its negation is within 128 bits
 abbrev pub is_negatable : Summand → Bool
 is_negatable s = is_narrow (neg_ℤ s.times)
 
+-- the summand with the negated coefficient
 abbrev pub negated_summand : Summand → Summand
 negated_summand s = record s { times = neg_ℤ s.times }
 
+-- each summand negated
 abbrev pub negated_polynomial : List Summand → Expansion
 negated_polynomial p = cond (list_all is_negatable p) (Polynomial (map negated_summand p)) Wide
 

@@ -35,5 +35,6 @@ same_term_layer (Term-F.Put a b c) (Term-F.Put d e f) = a d && (b e && c f)
 same_term_layer (Term-F.Fun f args) (Term-F.Fun g more) = bytes_eq f g && all_same args more
 same_term_layer _ _ = false
 
+-- whether two terms are one
 abbrev pub same_term : Term → Term → Bool
 same_term = fold-Term (Term → Bool) (λ x u. same_term_layer x (out-Term u))

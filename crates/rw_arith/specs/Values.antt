@@ -8,13 +8,16 @@ use Rattle.rw_arith.specs.declared.poly.Expansion.{Expansion}
 use Rattle.rw_arith.specs.declared.poly.Expansion.TheVariants.{Polynomial, Unfit, Wide}
 
 module _ (of_atom : Term → ℤ) where
+  -- of a product the product of the values of its atoms
   abbrev pub product_value : List Term → ℤ
   product_value [] = pos 1
   product_value (t ∷ ts) = of_atom t *ℤ product_value ts
 
+  -- of a summand its coefficient times that
   abbrev pub summand_value : Summand → ℤ
   summand_value s = s.times *ℤ product_value s.atoms
 
+  -- of a polynomial the sum of the values of its summands
   abbrev pub polynomial_value : List Summand → ℤ
   polynomial_value [] = pos 0
   polynomial_value (s ∷ ss) = summand_value s +ℤ polynomial_value ss

@@ -59,12 +59,7 @@ fn sum_of(
     add_parts(alloc, left, right, made, parts)
 }
 
-fn are_allowed(
-    left: &[Formula],
-    right: &[Formula],
-    made: &[Items<Summand>],
-    parts: &[Part],
-) -> bool
+fn are_allowed(left: &[Formula], right: &[Formula], made: &[Items<Summand>], parts: &[Part]) -> bool
     ensures { result ≡ list_all (is_allowed left.now right.now made.now) parts.now }
 {
     for part in parts {
@@ -76,12 +71,7 @@ fn are_allowed(
 }
 
 // Whether the part names what is there, and the multiple of it may be taken.
-fn is_allowed(
-    left: &[Formula],
-    right: &[Formula],
-    made: &[Items<Summand>],
-    part: &Part,
-) -> bool
+fn is_allowed(left: &[Formula], right: &[Formula], made: &[Items<Summand>], part: &Part) -> bool
     ensures { result ≡ is_allowed left.now right.now made.now part.now }
 {
     match part.of {
@@ -232,11 +222,7 @@ fn divides(by: i128, summand: &Summand) -> bool
     rest(summand.times, by) == 0
 }
 
-fn quotients(
-    alloc: Global,
-    by: i128,
-    summands: &[Summand],
-) -> Result<Items<Summand>, AllocError>
+fn quotients(alloc: Global, by: i128, summands: &[Summand]) -> Result<Items<Summand>, AllocError>
     requires { pos 0 <ℤ by }
     ensures { IfOk result (λ p. p ≡ quotients by summands.now) }
 {

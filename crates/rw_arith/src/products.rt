@@ -12,11 +12,7 @@ use std::alloc::{AllocError, Global};
 const MOST_FACTORS: usize = 16;
 
 /// The product: the left one's summands are taken in order, and for each of them the right one's in order.
-pub fn product(
-    alloc: Global,
-    left: &Expansion,
-    right: &Expansion,
-) -> Result<Expansion, AllocError>
+pub fn product(alloc: Global, left: &Expansion, right: &Expansion) -> Result<Expansion, AllocError>
     ensures { IfOk result (λ e. e ≡ product left.now right.now) }
 {
     match left {

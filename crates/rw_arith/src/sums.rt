@@ -85,11 +85,7 @@ fn negate_one(summand: &mut Summand) -> bool
 }
 
 /// The difference: the right one is negated first and then added.
-pub fn difference(
-    alloc: Global,
-    left: Expansion,
-    right: Expansion,
-) -> Result<Expansion, AllocError>
+pub fn difference(alloc: Global, left: Expansion, right: Expansion) -> Result<Expansion, AllocError>
     ensures { IfOk result (λ e. e ≡ difference left right) }
 {
     sum(alloc, left, &negate(right))

@@ -197,11 +197,17 @@ fn summands_stand_in_the_order_in_which_they_came(rt: HostRuntime) -> Result<(),
 fn a_step_past_128_bits_is_found_at_that_step(rt: HostRuntime) -> Result<(), Fail> {
     let cases = [
         ("max x *", "170141183460469231731687303715884105727 x;"),
-        ("max x * 0 x * +", "170141183460469231731687303715884105727 x;"),
+        (
+            "max x * 0 x * +",
+            "170141183460469231731687303715884105727 x;",
+        ),
         ("max 1 +", "wide"),
         ("max x * x +", "wide"),
         ("max x * x + x -", "wide"),
-        ("max x * x x - +", "170141183460469231731687303715884105727 x;"),
+        (
+            "max x * x x - +",
+            "170141183460469231731687303715884105727 x;",
+        ),
         ("max neg 1 -", "-170141183460469231731687303715884105728;"),
         ("max neg 1 - neg", "wide"),
         ("0 max neg 1 - -", "wide"),
@@ -286,12 +292,41 @@ fn formulas_give_polynomials_that_are_0_or_at_least_0(rt: HostRuntime) -> Result
     given_are(&rt, rt.alloc(), &cases)
 }
 
+fn polynomial_case(alloc: Global, text: &str) -> Result<bool, Fail> {
+    let term = term(alloc, text)?;
+    Ok(is_polynomial(&term))
+}
+
 #[test]
 fn binders_and_puts_may_stand_in_atoms_alone(rt: HostRuntime) -> Result<(), Fail> {
     let alloc = rt.alloc();
-    assert!(rt; is_polynomial(&term(alloc, "x a _0 [] 2 * -")?));
-    assert!(rt; !is_polynomial(&term(alloc, "x _0 2 * -")?));
-    assert!(rt; !is_polynomial(&term(alloc, "a 1 2 put")?));
+    assert!(rt; polynomial_case(alloc, "x a _0 [] 2 * -")?);
+    assert!(rt; !polynomial_case(alloc, "x _0 2 * -")?);
+    assert!(rt; !polynomial_case(alloc, "a 1 2 put")?);
+    Ok(())
+}
+
+// `x` with 512 operators round it, the most that a line can spell.
+fn deepest(alloc: Global, operator: &str) -> Result<String, Fail> {
+    let mut text = format!(in alloc; "x")?;
+    for _ in 0..512u32 {
+        text.push_str(operator)?;
+    }
+    Ok(text)
+}
+
+fn deep_case(alloc: Global, operator: &str) -> Result<Text, Fail> {
+    let text = deepest(alloc, operator)?;
+    expansion_case(alloc, text.as_str())
+}
+
+#[test]
+fn the_deepest_terms_fit_the_stack(rt: HostRuntime) -> Result<(), Fail> {
+    let alloc = rt.alloc();
+    let told = deep_case(alloc, " 1 +")?;
+    assert_eq!(rt; told.bytes(), b"512;1 x;".as_slice());
+    let told = deep_case(alloc, " neg")?;
+    assert_eq!(rt; told.bytes(), b"1 x;".as_slice());
     Ok(())
 }
 
@@ -412,7 +447,12 @@ fn verdicts_are(
 fn lines_refute_or_the_first_fault_is_told(rt: HostRuntime) -> Result<(), Fail> {
     let cases = [
         ("2 x * 1 =", "", "1*L1,1/2,-1*L1,3/2,1*2 1*4", "refuted"),
-        ("4 x * 1 =", "", "85070591730234615865843651857942052864*L1", "wide 1"),
+        (
+            "4 x * 1 =",
+            "",
+            "85070591730234615865843651857942052864*L1",
+            "wide 1",
+        ),
         ("0 x <", "0 x <=", "1*L9", "bad 1"),
         ("0 x <", "0 x <=", "-1*L1", "bad 1"),
         ("0 x <", "0 x <=", "1*L1", "open 1"),
