@@ -1,0 +1,11 @@
+pub mod Same
+pub mod Steps
+pub mod Negations
+pub mod Expanding
+pub mod Integers
+pub mod Multisets
+pub mod Values
+pub mod ExpansionLaws
+pub mod GivenLaws
+pub mod Dividing
+pub mod Refuting

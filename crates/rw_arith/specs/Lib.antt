@@ -1,0 +1,7 @@
+pub mod Same
+pub mod Polynomials
+pub mod Expanded
+pub mod Given
+pub mod Lines
+pub mod Values
+pub mod Laws

@@ -1,0 +1,478 @@
+//! Expansions and lines whose answers were worked out by hand.
+
+ghost use Rattle.std.specs.Prelude.{◌≡◌, ◌<◌, length};
+
+use crate::check::check_lines;
+use crate::error::LinError;
+use crate::expand::{expand, is_polynomial};
+use crate::given::{given_by_left, given_by_right};
+use crate::line::{LinLine, Part, Ref};
+use crate::poly::{Expansion, Summand};
+use rw_items::{Boxed, Items};
+use rw_steps::Steps;
+use rw_terms::name::Name;
+use rw_terms::term::{Formula, Term};
+use rw_terms::text::Text;
+use std::alloc::Global;
+use std::marker::Brand;
+use std::process::Abort;
+use std::sync::ledger::{Blank, Ledger};
+use std::test::Fail;
+
+// The terms as they are built from words that stand behind their parts, as `x 2 * 1 -`.
+#[derive(Drop)]
+struct Stack {
+    alloc: Global,
+    terms: Vec<Term>,
+}
+
+impl Stack {
+    fn term(&mut self) -> Result<Term, Fail> {
+        Ok(self.terms.pop().ok_or("no term")?)
+    }
+
+    fn boxed(&mut self) -> Result<Boxed<Term>, Fail> {
+        let term = self.term()?;
+        Ok(Boxed::new(self.alloc, term)?)
+    }
+
+    fn operator(&mut self, word: &str) -> Result<(), Fail> {
+        let b = self.boxed()?;
+        let a = self.boxed()?;
+        let term = match word {
+            "+" => Term::Add(a, b),
+            "-" => Term::Sub(a, b),
+            "*" => Term::Mul(a, b),
+            "div" => Term::Div(a, b),
+            "mod" => Term::Mod(a, b),
+            _ => Term::Read(a, b),
+        };
+        self.terms.push(term)?;
+        Ok(())
+    }
+
+    fn put(&mut self) -> Result<(), Fail> {
+        let e = self.boxed()?;
+        let i = self.boxed()?;
+        let a = self.boxed()?;
+        self.terms.push(Term::Put(a, i, e))?;
+        Ok(())
+    }
+
+    // A number, `max` for the greatest, a name, or a binder as `_1`.
+    fn leaf(&mut self, word: &str) -> Result<(), Fail> {
+        let term = if word == "max" {
+            Term::Lit(i128::MAX)
+        } else if let Some(k) = word.strip_prefix("_") {
+            Term::Bound(k.parse::<u32>()?)
+        } else {
+            match word.parse::<i128>() {
+                Ok(n) => Term::Lit(n),
+                Err(_) => Term::Var(Name::read(word.as_bytes())?),
+            }
+        };
+        self.terms.push(term)?;
+        Ok(())
+    }
+
+    fn word(&mut self, word: &str) -> Result<(), Fail> {
+        match word {
+            "+" | "-" | "*" | "div" | "mod" | "[]" => self.operator(word),
+            "put" => self.put(),
+            "neg" => {
+                let a = self.boxed()?;
+                self.terms.push(Term::Neg(a))?;
+                Ok(())
+            }
+            _ => self.leaf(word),
+        }
+    }
+}
+
+fn words_of(alloc: Global, text: &str) -> Result<Stack, Fail> {
+    let mut stack = Stack {
+        alloc,
+        terms: Vec::new(alloc),
+    };
+    for word in text.split(' ') {
+        stack.word(word)?;
+    }
+    Ok(stack)
+}
+
+fn term(alloc: Global, text: &str) -> Result<Term, Fail> {
+    words_of(alloc, text)?.term()
+}
+
+fn formula(alloc: Global, text: &str) -> Result<Formula, Fail> {
+    let (words, relation) = text.rsplit_once(' ').ok_or("no relation")?;
+    let mut stack = words_of(alloc, words)?;
+    let u = stack.term()?;
+    let t = stack.term()?;
+    Ok(match relation {
+        "=" => Formula::Eq(t, u),
+        "<" => Formula::Less(t, u),
+        _ => Formula::AtMost(t, u),
+    })
+}
+
+fn tell_atom(told: &mut Text, atom: &Term) -> Result<(), Fail> {
+    match atom {
+        Term::Var(name) => told.push_name(name)?,
+        Term::Div(_, _) => told.push_str("div")?,
+        Term::Mod(_, _) => told.push_str("mod")?,
+        Term::Read(_, _) => told.push_str("read")?,
+        _ => told.push_str("other")?,
+    }
+    Ok(())
+}
+
+fn tell_summand(told: &mut Text, summand: &Summand) -> Result<(), Fail> {
+    told.push_integer(summand.times)?;
+    for atom in summand.atoms.as_slice() {
+        told.push_str(" ")?;
+        tell_atom(told, atom)?;
+    }
+    told.push_str(";")?;
+    Ok(())
+}
+
+// Each summand as its coefficient and its atoms, ended by `;`.
+fn told(alloc: Global, expansion: &Expansion) -> Result<Text, Fail> {
+    let mut told = Text::new(alloc);
+    match expansion {
+        Expansion::Polynomial(summands) => {
+            for summand in summands.as_slice() {
+                tell_summand(&mut told, summand)?;
+            }
+        }
+        Expansion::Unfit => told.push_str("unfit")?,
+        Expansion::Wide => told.push_str("wide")?,
+    }
+    Ok(told)
+}
+
+fn expansion_case(alloc: Global, text: &str) -> Result<Text, Fail> {
+    let term = term(alloc, text)?;
+    let expansion = expand(alloc, &term)?;
+    told(alloc, &expansion)
+}
+
+fn expansions_are(rt: &impl Abort, alloc: Global, cases: &[(&str, &str)]) -> Result<(), Fail> {
+    for (text, want) in cases {
+        let told = expansion_case(alloc, text)?;
+        assert_eq!(rt; told.bytes(), want.as_bytes(), "at {text}");
+    }
+    Ok(())
+}
+
+#[test]
+fn summands_stand_in_the_order_in_which_they_came(rt: HostRuntime) -> Result<(), Fail> {
+    let cases = [
+        ("0", ""),
+        ("x 1 +", "1;1 x;"),
+        ("x y + z -", "1 x;1 y;-1 z;"),
+        ("x y + x -", "1 y;"),
+        ("x y + x - x +", "1 y;1 x;"),
+        ("1 x + 1 -", "1 x;"),
+        ("1 x + 1 - 2 +", "2;1 x;"),
+        ("2 x * x 2 * -", ""),
+        ("x y - neg", "-1 x;1 y;"),
+        ("x y * y x * +", "2 x y;"),
+        ("x 1 + x 1 - *", "-1;1 x x;"),
+        ("x y + x y + *", "1 x x;2 x y;1 y y;"),
+        ("x y + x z - *", "1 x x;-1 x z;1 y x;-1 y z;"),
+        ("x 2 div 2 x 2 div * +", "3 div;"),
+        ("x 2 div x 3 div +", "1 div;1 div;"),
+        ("a x [] a 1 [] *", "1 read read;"),
+        ("x 2 mod x +", "1 mod;1 x;"),
+        ("a _0 []", "1 read;"),
+        ("x _0 +", "unfit"),
+        ("a 1 x put", "unfit"),
+    ];
+    expansions_are(&rt, rt.alloc(), &cases)
+}
+
+#[test]
+fn a_step_past_128_bits_is_found_at_that_step(rt: HostRuntime) -> Result<(), Fail> {
+    let cases = [
+        ("max x *", "170141183460469231731687303715884105727 x;"),
+        (
+            "max x * 0 x * +",
+            "170141183460469231731687303715884105727 x;",
+        ),
+        ("max 1 +", "wide"),
+        ("max x * x +", "wide"),
+        ("max x * x + x -", "wide"),
+        (
+            "max x * x x - +",
+            "170141183460469231731687303715884105727 x;",
+        ),
+        ("max neg 1 -", "-170141183460469231731687303715884105728;"),
+        ("max neg 1 - neg", "wide"),
+        ("0 max neg 1 - -", "wide"),
+        ("max x * 2 y * *", "wide"),
+        ("max 1 + _0 +", "wide"),
+        ("_0 max 1 + +", "unfit"),
+    ];
+    expansions_are(&rt, rt.alloc(), &cases)
+}
+
+#[test]
+fn a_product_has_at_most_16_factors_which_are_counted_first(rt: HostRuntime) -> Result<(), Fail> {
+    let cases = [
+        (
+            "x x * x * x * x * x * x * x * x * x * x * x * x * x * x * x *",
+            "1 x x x x x x x x x x x x x x x x;",
+        ),
+        (
+            "x x * x * x * x * x * x * x * x * x * x * x * x * x * x * x * x *",
+            "unfit",
+        ),
+        (
+            "max x x * x * x * x * x * x * x * x * x * x * x * x * x * x * x * * 2 x * *",
+            "unfit",
+        ),
+    ];
+    expansions_are(&rt, rt.alloc(), &cases)
+}
+
+// 1, and so many reads of an array, each at a number of its own.
+fn reads(alloc: Global, many: u32) -> Result<String, Fail> {
+    let mut text = format!(in alloc; "1")?;
+    for i in 0..many {
+        text.push_str(format!(in alloc; " a {i} [] +")?.as_str())?;
+    }
+    Ok(text)
+}
+
+fn reads_case(alloc: Global, many: u32) -> Result<bool, Fail> {
+    let text = reads(alloc, many)?;
+    let told = expansion_case(alloc, text.as_str())?;
+    Ok(told.bytes() != b"unfit".as_slice())
+}
+
+#[test]
+fn a_polynomial_has_at_most_256_products_beside_the_constant(rt: HostRuntime) -> Result<(), Fail> {
+    let alloc = rt.alloc();
+    assert!(rt; reads_case(alloc, 256)?);
+    assert!(rt; !reads_case(alloc, 257)?);
+    Ok(())
+}
+
+fn left_case(alloc: Global, text: &str) -> Result<Text, Fail> {
+    let formula = formula(alloc, text)?;
+    let given = given_by_left(alloc, &formula)?;
+    told(alloc, &given)
+}
+
+fn right_case(alloc: Global, text: &str) -> Result<Text, Fail> {
+    let formula = formula(alloc, text)?;
+    let given = given_by_right(alloc, &formula)?;
+    told(alloc, &given)
+}
+
+fn given_are(rt: &impl Abort, alloc: Global, cases: &[(&str, &str, &str)]) -> Result<(), Fail> {
+    for (text, left, right) in cases {
+        let told = left_case(alloc, text)?;
+        assert_eq!(rt; told.bytes(), left.as_bytes(), "left {text}");
+        let told = right_case(alloc, text)?;
+        assert_eq!(rt; told.bytes(), right.as_bytes(), "right {text}");
+    }
+    Ok(())
+}
+
+#[test]
+fn formulas_give_polynomials_that_are_0_or_at_least_0(rt: HostRuntime) -> Result<(), Fail> {
+    let cases = [
+        ("x y =", "1 x;-1 y;", "unfit"),
+        ("x y <=", "1 y;-1 x;", "-1;1 x;-1 y;"),
+        ("x y <", "-1;1 y;-1 x;", "1 x;-1 y;"),
+    ];
+    given_are(&rt, rt.alloc(), &cases)
+}
+
+fn polynomial_case(alloc: Global, text: &str) -> Result<bool, Fail> {
+    let term = term(alloc, text)?;
+    Ok(is_polynomial(&term))
+}
+
+#[test]
+fn binders_and_puts_may_stand_in_atoms_alone(rt: HostRuntime) -> Result<(), Fail> {
+    let alloc = rt.alloc();
+    assert!(rt; polynomial_case(alloc, "x a _0 [] 2 * -")?);
+    assert!(rt; !polynomial_case(alloc, "x _0 2 * -")?);
+    assert!(rt; !polynomial_case(alloc, "a 1 2 put")?);
+    Ok(())
+}
+
+// `x` with 512 operators round it, the most that a line can spell.
+fn deepest(alloc: Global, operator: &str) -> Result<String, Fail> {
+    let mut text = format!(in alloc; "x")?;
+    for _ in 0..512u32 {
+        text.push_str(operator)?;
+    }
+    Ok(text)
+}
+
+fn deep_case(alloc: Global, operator: &str) -> Result<Text, Fail> {
+    let text = deepest(alloc, operator)?;
+    expansion_case(alloc, text.as_str())
+}
+
+#[test]
+fn the_deepest_terms_fit_the_stack(rt: HostRuntime) -> Result<(), Fail> {
+    let alloc = rt.alloc();
+    let told = deep_case(alloc, " 1 +")?;
+    assert_eq!(rt; told.bytes(), b"512;1 x;".as_slice());
+    let told = deep_case(alloc, " neg")?;
+    assert_eq!(rt; told.bytes(), b"1 x;".as_slice());
+    Ok(())
+}
+
+fn reference(text: &str) -> Result<Ref, Fail> {
+    if let Some(number) = text.strip_prefix("L") {
+        return Ok(Ref::Left(number.parse::<u32>()?));
+    }
+    if let Some(number) = text.strip_prefix("R") {
+        return Ok(Ref::Right(number.parse::<u32>()?));
+    }
+    Ok(Ref::Line(text.parse::<u32>()?))
+}
+
+// `1*L1 -2*R1 3*1`, or `1/2`.
+fn line(alloc: Global, text: &str) -> Result<LinLine, Fail> {
+    if let Some((line, by)) = text.split_once('/') {
+        return Ok(LinLine::Divide(line.parse::<u32>()?, by.parse::<i128>()?));
+    }
+    Ok(LinLine::Sum(parts(alloc, text)?))
+}
+
+fn parts(alloc: Global, text: &str) -> Result<Items<Part>, Fail> {
+    let mut parts = Items::new(alloc);
+    for word in text.split(' ') {
+        parts.push(part(word)?)?;
+    }
+    Ok(parts)
+}
+
+fn part(word: &str) -> Result<Part, Fail> {
+    let (times, of) = word.split_once('*').ok_or("no part")?;
+    Ok(Part {
+        times: times.parse::<i128>()?,
+        of: reference(of)?,
+    })
+}
+
+fn lines(alloc: Global, text: &str) -> Result<Items<LinLine>, Fail> {
+    let mut lines = Items::new(alloc);
+    if text.is_empty() {
+        return Ok(lines);
+    }
+    for part in text.split(',') {
+        lines.push(line(alloc, part)?.copy(alloc)?)?;
+    }
+    Ok(lines)
+}
+
+fn sides(alloc: Global, text: &str) -> Result<Items<Formula>, Fail> {
+    let mut formulas = Items::new(alloc);
+    if text.is_empty() {
+        return Ok(formulas);
+    }
+    formulas.push(formula(alloc, text)?)?;
+    Ok(formulas)
+}
+
+fn verdict_told(alloc: Global, verdict: Result<(), LinError>) -> Result<String, Fail> {
+    match verdict {
+        Ok(()) => Ok(format!(in alloc; "refuted")?),
+        Err(LinError::BadLine(line)) => Ok(format!(in alloc; "bad {line}")?),
+        Err(LinError::Wide(line)) => Ok(format!(in alloc; "wide {line}")?),
+        Err(LinError::NotContradiction(line)) => Ok(format!(in alloc; "open {line}")?),
+        Err(LinError::Memory) => Ok(format!(in alloc; "memory")?),
+    }
+}
+
+fn checked<L: Ledger>(
+    alloc: Global,
+    left: &[Formula],
+    right: &[Formula],
+    lines: &[LinLine],
+    blank: Blank,
+) -> Result<(), LinError>
+    requires name { blank.name ≡ L.name }
+    requires parts { blank.parts ≡ L.parts }
+    requires some { 0 < L.parts }
+    requires few { length lines.now < 4294967295 }
+{
+    let mut steps = Steps::<L>::new(blank);
+    check_lines(alloc, left, right, lines, &mut steps)
+}
+
+fn lines_case(
+    rt: &impl Abort,
+    alloc: Global,
+    left: &str,
+    right: &str,
+    text: &str,
+) -> Result<String, Fail> {
+    let left = sides(alloc, left)?;
+    let right = sides(alloc, right)?;
+    let lines = lines(alloc, text)?;
+    assert!(rt; lines.len() < 100);
+    let verdict = checked::<Brand>(
+        alloc,
+        left.as_slice(),
+        right.as_slice(),
+        lines.as_slice(),
+        Blank::new(1),
+    );
+    verdict_told(alloc, verdict)
+}
+
+fn verdicts_are(
+    rt: &impl Abort,
+    alloc: Global,
+    cases: &[(&str, &str, &str, &str)],
+) -> Result<(), Fail> {
+    for (left, right, text, want) in cases {
+        let told = lines_case(rt, alloc, left, right, text)?;
+        assert_eq!(rt; told.as_str(), *want, "{text} on {left} and {right}");
+    }
+    Ok(())
+}
+
+#[test]
+fn lines_refute_or_the_first_fault_is_told(rt: HostRuntime) -> Result<(), Fail> {
+    let cases = [
+        ("2 x * 1 =", "", "1*L1,1/2,-1*L1,3/2,1*2 1*4", "refuted"),
+        (
+            "4 x * 1 =",
+            "",
+            "85070591730234615865843651857942052864*L1",
+            "wide 1",
+        ),
+        ("0 x <", "0 x <=", "1*L9", "bad 1"),
+        ("0 x <", "0 x <=", "-1*L1", "bad 1"),
+        ("0 x <", "0 x <=", "1*L1", "open 1"),
+        ("0 x <", "0 x <=", "1*L1 1*R1", "refuted"),
+        ("0 n <=", "n 0 d * n + <=", "1*R1", "refuted"),
+        ("0 x <=", "0 x 1 - <=", "1*R1", "open 1"),
+        ("0 x <=", "0 x 1 - <=", "1*L1 1*R1", "open 1"),
+        ("x 1 =", "", "", "open 0"),
+        ("x 1 =", "", "1*L0", "bad 1"),
+        ("x 1 =", "", "1*1", "bad 1"),
+        ("x 1 =", "", "1*L1,1*3", "bad 2"),
+        ("x 1 =", "", "1/1", "bad 1"),
+        ("2 x * 1 =", "", "1*L1,1/0", "bad 2"),
+        ("2 x * 1 =", "", "1*L1,1/-2", "bad 2"),
+        ("3 x * 1 =", "", "1*L1,1/2", "bad 2"),
+        ("2 x * 1 =", "", "1*L1,-1*1", "bad 2"),
+        ("", "x x =", "1*R1", "bad 1"),
+        ("x _0 =", "", "1*L1", "bad 1"),
+        ("max x * 1 + x <", "", "1*L1 -1*L1", "bad 1"),
+        ("max x * x + x =", "", "1*L1,-1*1", "wide 1"),
+    ];
+    verdicts_are(&rt, rt.alloc(), &cases)
+}
