@@ -1,0 +1,6 @@
+pub mod LevelLemmas
+pub mod Calls
+pub mod Plain
+pub mod Fits
+pub mod ShownTerms
+pub mod ShownFormulas
