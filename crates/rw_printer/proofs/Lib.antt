@@ -4,3 +4,10 @@ pub mod Plain
 pub mod Fits
 pub mod ShownTerms
 pub mod ShownFormulas
+pub mod Leading
+pub mod Numerals
+pub mod Marks
+pub mod Fronts
+pub mod Lexed
+pub mod ReadsBack
+pub mod SpelledValues

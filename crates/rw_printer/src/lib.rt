@@ -2,9 +2,12 @@
 #![tactic(auto)]
 
 mod formulas;
+pub mod laws;
 mod levels;
 mod pieces;
 mod printing;
 mod terms;
+#[cfg(test)]
+mod tests;
 
 pub use printing::{print_formula, print_sequent, print_spec, print_term};

@@ -2,6 +2,7 @@
 
 ghost use Rattle.std.specs.Prelude.{◌≡◌, ◌++◌, [], map, IfOk, OnOk, codes};
 ghost use Rattle.rw_printer.specs.Layout.{printed_term, printed_formula, names_text, formulas_text, left_text, right_text, spec_text, sequent_text};
+ghost use Rattle.rw_printer.specs.ReadsBack.{TermReadsBack, FormulaReadsBack};
 
 use crate::formulas::push_formula;
 use crate::terms::push_term;
@@ -12,18 +13,22 @@ use rw_terms::term::{Formula, Term};
 use rw_terms::text::Text;
 use std::alloc::{AllocError, Global};
 
-/// The text of a term.
+/// The text of a term, which reads back as it. Safe on the default stack for each term that a reader gives: no deeper
+/// than 512 operators.
 pub fn print_term(alloc: Global, term: &Term) -> Result<Text, AllocError>
     ensures text { IfOk result (λ text. text ≡ printed_term term.now) }
+    ensures reads_back { IfOk result (λ text. TermReadsBack text term.now) }
 {
     let mut text = Text::new(alloc);
     push_term(&mut text, 0, term)?;
     Ok(text)
 }
 
-/// The text of a formula.
+/// The text of a formula, which reads back as it. Safe on the default stack for each formula that a reader gives: no
+/// deeper than 512 quantifiers round 512 operators.
 pub fn print_formula(alloc: Global, formula: &Formula) -> Result<Text, AllocError>
     ensures text { IfOk result (λ text. text ≡ printed_formula formula.now) }
+    ensures reads_back { IfOk result (λ text. FormulaReadsBack text formula.now) }
 {
     let mut text = Text::new(alloc);
     push_formula(&mut text, 0, formula)?;

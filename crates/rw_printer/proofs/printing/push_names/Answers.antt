@@ -4,6 +4,7 @@ use Rattle.rw_printer.proofs.Calls.{more_written}
 use Rattle.rw_printer.proofs.printing.push_names.Goals as goal
 
 pub loop-name-preserved : goal.loop-name-preserved
+unfolding lib.Utf8.encode
 loop-name-preserved c = record {
   utf8 = (44 ∷ [], (refl, refl));
   ascii = refl;
