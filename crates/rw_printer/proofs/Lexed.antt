@@ -92,7 +92,7 @@ pub starts : (t : Tree) (d : ℕ) → IsPlain d t → Starts (laid t)
 starts (leaf l) d p = leaf_starts l d p
 starts (prefix q t) d p = starts_with _ _ (prefix_starts q)
 starts (binary op l r) d p = starts_with _ _ (starts_with _ _ (starts_with _ _ (starts_with _ _ (starts l d p.0))))
-starts (group t) d p = starts_with _ _ (starts_with _ _ (byte_starts 40 [] refl))
+starts (group t) d p = starts_with (codes "(" ++ laid t) (codes ")") (starts_with (codes "(") (laid t) (byte_starts 40 [] refl))
 starts (index t u) d p = starts_with _ _ (starts_with _ _ (starts_with _ _ (starts t d p.0)))
 starts (call h ts t) d p = starts_with _ _ (starts_with _ _ (starts_with _ _ (starts_with _ _ (head_starts h p.0))))
 

@@ -18,18 +18,17 @@ split : (a b : Bool) → (a && b) ≡ true → (a ≡ true) × (b ≡ true)
 split true b e = (refl, e)
 split false b e = absurd (cc)
 
+by_test : (p : List ℕ → Bool) (k : List ℕ × Mark) (w : List ℕ) (o : Option Mark) (b : Bool) → bytes_eq w k.0 ≡ b → not (p k.0) ≡ true → p w ≡ true → o ≡ None → cond b (Some k.1) o ≡ None
+by_test p k w o true s q e n =
+    let same : w ≡ k.0 = (bytes_eq-Decides w k.0).0 s in
+    absurd (true≢false (sym q ∙ ap (λ x. not (p x)) (sym same) ∙ ap not e))
+by_test p k w o false s q e n = n
+
 no_mark : (p : List ℕ → Bool) (ks : List (List ℕ × Mark)) (w : List ℕ) → none_passes p ks ≡ true → p w ≡ true → mark_in ks w ≡ None
 no_mark p [] w h e = refl
-no_mark p (k ∷ ks) w h e = go (bytes_eq w k.0) refl
-  where
-    q : (not (p k.0) ≡ true) × (none_passes p ks ≡ true)
-    q = split (not (p k.0)) (none_passes p ks) h
-
-    go : (b : Bool) → bytes_eq w k.0 ≡ b → cond b (Some k.1) (mark_in ks w) ≡ None
-    go true s =
-        let same : w ≡ k.0 = (bytes_eq-Decides w k.0).from_true s in
-        absurd (true≢false (sym q.0 ∙ ap (λ x. not (p x)) (sym same) ∙ ap not e))
-    go false s = no_mark p ks w q.1 e
+no_mark p (k ∷ ks) w h e =
+    let q = split (not (p k.0)) (none_passes p ks) h in
+    by_test p k w (mark_in ks w) (bytes_eq w k.0) refl q.0 e (no_mark p ks w q.1 e)
 
 marks_are_no_names : none_passes is_name mark_texts ≡ true
 unfolding mark_texts is_name is_reserved reserved

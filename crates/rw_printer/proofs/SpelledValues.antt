@@ -78,14 +78,14 @@ prefixed_good prefixes.Not env v h g = formula_good (Formula-F.Not (as_formula v
 prefixed_good (prefixes.Bind quantifiers.All b s) env v h g = formula_good (Formula-F.All s (as_formula v)) (length env) (both_true (is_sort s) (readable_formula (as_formula v) (suc (length env))) (sort_of_prefix (is_binder b) (is_sort s) h) (as_formula_good (suc (length env)) v g))
 prefixed_good (prefixes.Bind quantifiers.Any b s) env v h g = formula_good (Formula-F.Any s (as_formula v)) (length env) (both_true (is_sort s) (readable_formula (as_formula v) (suc (length env))) (sort_of_prefix (is_binder b) (is_sort s) h) (as_formula_good (suc (length env)) v g))
 
+deeper : (t : Bool) (n : ℕ) (o : Option ℕ) (k : ℕ) → ((j : ℕ) → o ≡ Some j → j < n) → cond t (Some 0) (option_map suc o) ≡ Some k → k < suc n
+deeper true n o k r h = let z : 0 ≡ k = cc in omega arith
+deeper false n None k r h = absurd (cc)
+deeper false n (Some j) k r h = let m = r j refl in let z : suc j ≡ k = cc in omega arith
+
 find_within : (b : Binder) (env : List Binder) (k : ℕ) → find b env ≡ Some k → k < length env
 find_within b [] k e = absurd (cc)
-find_within b (c ∷ cs) k e = go (same_binder b c) (find b cs) refl e
-  where
-    go : (t : Bool) (o : Option ℕ) → find b cs ≡ o → cond t (Some 0) (option_map suc o) ≡ Some k → k < length (c ∷ cs)
-    go true o f h = let z : 0 ≡ k = cc in omega arith
-    go false None f h = absurd (cc)
-    go false (Some j) f h = let r = find_within b cs j f in let z : suc j ≡ k = cc in omega arith
+find_within b (c ∷ cs) k e = deeper (same_binder b c) (length cs) (find b cs) k (λ j f. find_within b cs j f) e
 
 below : (k n : ℕ) → k < n → ltb k n ≡ true
 below k n h = grind (arith, nat_tests)
