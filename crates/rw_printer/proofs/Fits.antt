@@ -1,5 +1,5 @@
 -- Trees that stand for a value behind binders that are named by their numbers.
-use Rattle.std.proofs.Common.{◌≡◌, ℕ, zero, suc, ◌-◌, ◌≤◌, ◌<◌, Bool, true, false, cond, List, [], ◌∷◌, ◌++◌, Option, Some, None, IsTrue, refl, sym, ap, ◌∙◌, arith, append_assoc, map, true≢false}
+use Rattle.std.proofs.Common.{◌≡◌, ℕ, zero, suc, ◌-◌, ◌≤◌, ◌<◌, Bool, true, false, cond, List, [], ◌∷◌, ◌++◌, Some, None, IsTrue, refl, sym, ap, ◌∙◌, arith, append_assoc, true≢false}
 use Rattle.std.specs.Prelude.{eqb, option_map}
 use Rattle.std.proofs.lemmas.Bool.Decides.{nat_tests}
 use Rattle.rw_terms.specs.Names.{is_name}
@@ -14,9 +14,9 @@ use Rattle.rw_syntax.specs.declared.frame.Part.TheVariants as parts
 use Rattle.rw_syntax.specs.declared.frame.Binder.{Binder}
 use Rattle.rw_syntax.specs.declared.frame.Binder.TheVariants as binders
 use Rattle.rw_syntax.specs.declared.frame.Head.TheVariants as heads
-use Rattle.rw_syntax.specs.Grammar.{Tree, binary, group, call, Trees, none, more, level, level_of, left_of, right_of, head_level, shut, fits, find, is_upper, joined, as_term, IsFormed, AreFormed, part, values}
+use Rattle.rw_syntax.specs.Grammar.{Tree, binary, group, Trees, more, level, level_of, left_of, right_of, head_level, shut, fits, find, is_upper, joined, as_term, IsFormed, AreFormed, part, values}
 use Rattle.rw_syntax.proofs.Choices.{fits_to, shut_term, shut_formula}
-use Rattle.rw_printer.specs.Trees.{wrap, infix_tree, call_onto}
+use Rattle.rw_printer.specs.Trees.{wrap, call_onto}
 use Rattle.rw_printer.specs.Readable.{both}
 use Rattle.rw_printer.proofs.Plain.{IsPlain, ArePlain}
 

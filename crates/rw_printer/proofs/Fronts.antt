@@ -1,18 +1,18 @@
 -- The token at the front of what is printed.
-use Rattle.std.proofs.Common.{◌≡◌, ℕ, suc, ◌+◌, ◌≤◌, ◌<◌, ◌^◌, Bool, true, false, cond, List, [], ◌∷◌, ◌++◌, length, take, drop, Option, Some, None, IsTrue, refl, sym, ap, ◌∙◌, subst, arith, append_assoc}
+use Rattle.std.proofs.Common.{◌≡◌, ℕ, suc, ◌+◌, ◌≤◌, ◌<◌, ◌^◌, Bool, true, false, cond, List, [], ◌∷◌, ◌++◌, length, take, drop, Some, None, refl, sym, ap, ◌∙◌, subst, arith}
 use Rattle.std.specs.Prelude.{eqb, leb, nat_eq, ◌&&◌, ◌||◌, codes, decimal, option_map}
 use Rattle.std.specs.List.{list_all, prefix_len}
 use Rattle.std.proofs.Math.Seq.{take-append_seam, drop-append_seam}
 use Rattle.std.proofs.lemmas.Bool.Decides.{nat_tests}
-use Rattle.rw_terms.specs.Names.{is_letter, is_digit, goes_on, is_word, is_name, ends_with_0, is_reserved}
+use Rattle.rw_terms.specs.Names.{is_letter, is_digit, goes_on, is_word, is_name, ends_with_0}
 use Rattle.rw_syntax.specs.declared.token.Infix.{Infix}
 use Rattle.rw_syntax.specs.declared.token.Infix.TheVariants as infixes
 use Rattle.rw_syntax.specs.declared.token.Token.TheVariants as classes
 use Rattle.rw_reader.specs.Tokens.{Token, text, number, binder, is_blank, skip, token_at, front_token, with_next, text_of, word_of, digits_of, binder_of, from_1, number_of, is_among, doubles, singles}
 use Rattle.rw_reader.specs.Classes.{class_of, text_class, mark_texts}
 use Rattle.rw_printer.specs.Layout.{infix_text}
-use Rattle.rw_printer.proofs.Leading.{Leads, one, to, from, skip_space}
-use Rattle.rw_printer.proofs.Numerals.{Digits, decimal_digits, number_is}
+use Rattle.rw_printer.proofs.Leading.{Leads, one, to, skip_space}
+use Rattle.rw_printer.proofs.Numerals.{decimal_digits, number_is}
 use Rattle.rw_printer.proofs.Marks.{word_class, initial_class}
 
 -- nothing, or a byte that ends words and numbers and makes no symbol with a bracket before it

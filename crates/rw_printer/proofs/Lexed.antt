@@ -1,17 +1,15 @@
 -- What is laid out leads through the tokens of its tree.
-use Rattle.std.proofs.Common.{◌≡◌, ℕ, suc, ◌+◌, ◌≤◌, Bool, true, false, cond, List, [], ◌∷◌, ◌++◌, Some, IsTrue, refl, sym, ap, ◌∙◌, subst, arith, append_assoc}
-use Rattle.std.specs.Prelude.{eqb, leb, nat_eq, ◌&&◌, ◌||◌, codes, decimal}
+use Rattle.std.proofs.Common.{◌≡◌, ℕ, suc, ◌+◌, ◌≤◌, Bool, true, false, List, [], ◌∷◌, ◌++◌, refl, sym, ap, ◌∙◌, subst, arith, append_assoc}
+use Rattle.std.specs.Prelude.{leb, nat_eq, ◌&&◌, codes, decimal}
 use Rattle.std.specs.List.{list_all}
 use Rattle.std.proofs.lemmas.Bool.Decides.{nat_tests}
-use Rattle.rw_terms.specs.Names.{is_letter, is_digit, goes_on, is_name}
+use Rattle.rw_terms.specs.Names.{is_letter, is_digit, is_name}
 use Rattle.rw_terms.specs.declared.term.Sort.{Sort}
 use Rattle.rw_terms.specs.declared.term.Sort.TheVariants as sorts
 use Rattle.rw_syntax.specs.declared.token.Infix.{Infix}
 use Rattle.rw_syntax.specs.declared.token.Quantifier.{Quantifier}
 use Rattle.rw_syntax.specs.declared.token.Quantifier.TheVariants as quantifiers
-use Rattle.rw_syntax.specs.declared.token.Token.{Token as Class}
 use Rattle.rw_syntax.specs.declared.token.Token.TheVariants as classes
-use Rattle.rw_syntax.specs.declared.frame.Binder.TheVariants as binders
 use Rattle.rw_syntax.specs.declared.frame.Prefix.{Prefix}
 use Rattle.rw_syntax.specs.declared.frame.Prefix.TheVariants as prefixes
 use Rattle.rw_syntax.specs.declared.frame.Head.{Head}

@@ -1,5 +1,5 @@
 -- Trees whose leaves are tokens and whose binders are numbered by those around them.
-use Rattle.std.proofs.Common.{◌≡◌, ℕ, suc, ◌≤◌, List, [], IsTrue}
+use Rattle.std.proofs.Common.{◌≡◌, ℕ, suc, ◌≤◌, [], IsTrue}
 use Rattle.rw_terms.specs.Names.{is_name}
 use Rattle.rw_syntax.specs.declared.frame.Binder.TheVariants as binders
 use Rattle.rw_syntax.specs.declared.frame.Prefix.{Prefix}

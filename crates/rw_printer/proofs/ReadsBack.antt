@@ -1,11 +1,11 @@
 -- What is printed reads back.
-use Rattle.std.proofs.Common.{◌≡◌, ℕ, ◌≤◌, List, [], ◌∷◌, ◌++◌, true, refl, sym, ap, ◌∙◌, subst, arith, append-nil}
+use Rattle.std.proofs.Common.{◌≡◌, ℕ, [], true, refl, sym, ◌∙◌, arith, append-nil}
 use Rattle.rw_terms.specs.declared.term.Term.{Term}
 use Rattle.rw_terms.specs.declared.term.Formula.{Formula}
 use Rattle.rw_syntax.specs.declared.frame.Part.{Part}
 use Rattle.rw_syntax.specs.declared.frame.Part.TheVariants as parts
 use Rattle.rw_syntax.specs.Grammar.{Tree, level, fits, nests}
-use Rattle.rw_syntax.specs.Spelling.{AreWithin, Spells}
+use Rattle.rw_syntax.specs.Spelling.{AreWithin}
 use Rattle.rw_syntax.proofs.Choices.{fits_to}
 use Rattle.rw_reader.specs.Tokens.{skip}
 use Rattle.rw_reader.specs.Expressions.{TextSpells}
@@ -13,7 +13,7 @@ use Rattle.rw_printer.specs.Trees.{term_tree, formula_tree}
 use Rattle.rw_printer.specs.Layout.{laid, printed_term, printed_formula}
 use Rattle.rw_printer.specs.Readable.{readable_term, named_term, readable_formula, named_formula}
 use Rattle.rw_printer.proofs.Fits.{Shown}
-use Rattle.rw_printer.proofs.Leading.{Leads, from, to}
+use Rattle.rw_printer.proofs.Leading.{from, to}
 use Rattle.rw_printer.proofs.Lexed.{lexed, starts, skip_start}
 use Rattle.rw_printer.proofs.ShownTerms.{prints as term_prints}
 use Rattle.rw_printer.proofs.ShownFormulas.{prints as formula_prints}

@@ -1,6 +1,5 @@
 -- The tree of a readable formula stands for it.
-use Rattle.std.proofs.Common.{◌≡◌, ℕ, suc, ◌≤◌, ◌<◌, Bool, true, false, cond, List, [], ◌∷◌, IsTrue, refl, sym, ap, ◌∙◌, subst, arith, true≢false, map}
-use Rattle.std.specs.Prelude.{not}
+use Rattle.std.proofs.Common.{◌≡◌, ℕ, suc, ◌≤◌, ◌<◌, Bool, true, false, cond, List, [], ◌∷◌, refl, sym, ap, ◌∙◌, subst, arith, true≢false, map}
 use Rattle.rw_terms.specs.Names.{is_name}
 use Rattle.rw_terms.specs.declared.term.Sort.{Sort}
 use Rattle.rw_terms.specs.declared.term.Term.{Term}
@@ -18,9 +17,9 @@ use Rattle.rw_syntax.specs.declared.frame.Part.TheVariants as parts
 use Rattle.rw_syntax.specs.declared.frame.Binder.TheVariants as binders
 use Rattle.rw_syntax.specs.declared.frame.Prefix.TheVariants as prefixes
 use Rattle.rw_syntax.specs.Grammar.{none, level, level_of, left_of, right_of, is_upper, is_sort, joined, prefixed, part, Tree}
-use Rattle.rw_printer.specs.Trees.{wrap, is_quantified, conclusion_level, infix_tree, implication_tree, quantified_tree, application, term_tree, argument_trees, formula_tree_step, formula_tree}
-use Rattle.rw_printer.specs.Readable.{both, all_of, some_and_all, readable_term, readable_step, readable_formula, named_term, named_terms, named_step, named_formula}
-use Rattle.rw_printer.proofs.Fits.{places, Shown, Fit, term_fits, formula_fits, infix_shown, split_both, AreFit, call_part, Called, called}
+use Rattle.rw_printer.specs.Trees.{wrap, is_quantified, conclusion_level, infix_tree, quantified_tree, term_tree, formula_tree_step, formula_tree}
+use Rattle.rw_printer.specs.Readable.{both, all_of, readable_term, readable_step, readable_formula, named_term, named_terms, named_step, named_formula}
+use Rattle.rw_printer.proofs.Fits.{Shown, Fit, term_fits, formula_fits, infix_shown, split_both, Called, called}
 use Rattle.rw_printer.proofs.ShownTerms.{prints as term_prints, all_fit}
 
 abbrev pub Prints : Formula → Type 0

@@ -1,6 +1,6 @@
 -- The tree of a readable term stands for it.
-use Rattle.std.proofs.Common.{◌≡◌, ℕ, suc, ◌-◌, ◌≤◌, ◌<◌, Bool, true, false, cond, List, [], ◌∷◌, IsTrue, refl, sym, ap, ◌∙◌, subst, arith, true≢false, pos, negsuc, map}
-use Rattle.std.specs.Prelude.{not, ltb}
+use Rattle.std.proofs.Common.{◌≡◌, ℕ, ◌≤◌, ◌<◌, Bool, true, false, cond, List, [], ◌∷◌, refl, sym, ap, ◌∙◌, subst, arith, true≢false, pos, negsuc, map}
+use Rattle.std.specs.Prelude.{not}
 use Rattle.std.proofs.lemmas.Bool.Decides.{nat_tests}
 use Rattle.rw_terms.specs.Names.{is_name}
 use Rattle.rw_terms.specs.declared.term.Term.{Term}
@@ -14,10 +14,10 @@ use Rattle.rw_syntax.specs.declared.token.Infix.TheVariants as infixes
 use Rattle.rw_syntax.specs.declared.frame.Part.TheVariants as parts
 use Rattle.rw_syntax.specs.declared.frame.Prefix.TheVariants as prefixes
 use Rattle.rw_syntax.specs.declared.frame.Head.TheVariants as heads
-use Rattle.rw_syntax.specs.Grammar.{word, leaf, none, level, level_of, left_of, right_of, head_level, is_some, is_upper, bound_or, named, joined, prefixed, read_at, applied, as_term, part, Tree}
+use Rattle.rw_syntax.specs.Grammar.{word, leaf, none, level, level_of, left_of, right_of, is_some, is_upper, bound_or, named, joined, prefixed, read_at, applied, as_term, part, Tree}
 use Rattle.rw_printer.specs.Trees.{wrap, application, term_tree_step, term_tree, argument_trees}
-use Rattle.rw_printer.specs.Readable.{both, all_of, some_and_all, readable_term_step, readable_term, named_term_step, named_term, named_terms}
-use Rattle.rw_printer.proofs.Fits.{places, Shown, Fit, term_fits, numbered_only, found, infix_shown, split_both, not_true, AreFit, call_part, Called, called}
+use Rattle.rw_printer.specs.Readable.{both, all_of, readable_term_step, readable_term, named_term_step, named_term, named_terms}
+use Rattle.rw_printer.proofs.Fits.{places, Shown, Fit, term_fits, numbered_only, found, infix_shown, split_both, not_true, AreFit, Called, called}
 
 abbrev pub Prints : Term → Type 0
 Prints t = (d : ℕ) → readable_term t d ≡ true → named_term t ≡ true → Shown d (term_tree t d) (parts.Term t)

@@ -1,5 +1,5 @@
 -- What tokens spell is readable.
-use Rattle.std.proofs.Common.{◌≡◌, ℕ, suc, ◌≤◌, ◌<◌, Bool, true, false, cond, List, [], ◌∷◌, ◌++◌, length, Option, Some, None, IsTrue, refl, sym, ap, ◌∙◌, subst, arith, pos, map}
+use Rattle.std.proofs.Common.{◌≡◌, ℕ, suc, ◌<◌, Bool, true, false, cond, List, [], ◌∷◌, ◌++◌, length, Option, Some, None, refl, ap, ◌∙◌, subst, arith, pos, map}
 use Rattle.std.specs.Prelude.{not, ltb, option_map}
 use Rattle.std.proofs.lemmas.Bool.Decides.{nat_tests}
 use Rattle.rw_terms.specs.declared.term.Term.{Term}
@@ -22,7 +22,7 @@ use Rattle.rw_syntax.specs.declared.frame.Prefix.{Prefix}
 use Rattle.rw_syntax.specs.declared.frame.Prefix.TheVariants as prefixes
 use Rattle.rw_syntax.specs.declared.frame.Head.{Head}
 use Rattle.rw_syntax.specs.declared.frame.Head.TheVariants as heads
-use Rattle.rw_syntax.specs.Grammar.{Leaf, number, word, initial, place, truth, Tree, leaf, prefix, binary, group, index, call, Trees, none, more, is_upper, is_some, is_sort, is_binder, is_known, is_prefix, find, same_binder, inner, named, bound_or, leaf_part, as_term, as_formula, prefixed, joined, read_at, put_of, applied, part, values, IsFormed, AreFormed, Reads}
+use Rattle.rw_syntax.specs.Grammar.{Leaf, number, word, initial, place, truth, Tree, leaf, prefix, binary, group, index, call, Trees, none, more, is_upper, is_sort, is_binder, is_known, is_prefix, find, same_binder, inner, named, bound_or, leaf_part, as_term, as_formula, prefixed, joined, put_of, applied, part, values, IsFormed, AreFormed, Reads}
 use Rattle.rw_printer.specs.Readable.{both, all_of, some_and_all, readable_term_step, readable_term, readable_step, readable_formula}
 
 abbrev IsGood : ℕ → Part → Type 0

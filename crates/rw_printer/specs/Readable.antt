@@ -1,5 +1,5 @@
 -- Which terms and formulas some text spells.
-use Rattle.std.specs.Prelude.{ℕ, suc, Bool, true, false, not, cond, leb, ltb, List, [], ◌∷◌, map, ℤ, pos, negsuc}
+use Rattle.std.specs.Prelude.{ℕ, suc, Bool, true, false, not, cond, ltb, List, [], ◌∷◌, map, ℤ, pos, negsuc}
 use Rattle.rw_terms.specs.declared.term.Term.{Term}
 use Rattle.rw_terms.specs.declared.term.Term.TheOpen.{Term-F}
 use Rattle.rw_terms.specs.declared.term.Term.TheFolds.{fold-Term}

@@ -1,7 +1,7 @@
 -- The parse tree that a term or a formula is printed as: parentheses stand where the grammar would else read another
 -- structure, and round each quantified operand of a connective. Behind d binders these are named `_1` to `_d`, the
 -- innermost last.
-use Rattle.std.specs.Prelude.{ℕ, zero, suc, ◌-◌, Bool, true, false, cond, List, [], ◌∷◌, map, ℤ, pos, negsuc}
+use Rattle.std.specs.Prelude.{ℕ, suc, ◌-◌, Bool, true, false, cond, List, [], ◌∷◌, map, ℤ, pos, negsuc}
 use Rattle.rw_terms.specs.declared.term.Term.{Term}
 use Rattle.rw_terms.specs.declared.term.Term.TheOpen.{Term-F}
 use Rattle.rw_terms.specs.declared.term.Term.TheFolds.{fold-Term}

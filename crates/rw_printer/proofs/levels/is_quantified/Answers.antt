@@ -1,4 +1,4 @@
-use Rattle.std.proofs.Common.{◌≡◌, ℕ, Bool, false, sym, ap, ◌∙◌}
+use Rattle.std.proofs.Common.{sym, ap, ◌∙◌}
 use Rattle.rw_printer.specs.Trees.{formula_tree, is_quantified}
 use Rattle.rw_printer.proofs.LevelLemmas.{application_formula_open}
 use Rattle.rw_printer.proofs.levels.is_quantified.Goals as goal
