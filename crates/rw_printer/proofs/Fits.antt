@@ -1,6 +1,6 @@
 -- Trees that stand for a value behind binders that are named by their numbers.
 use Rattle.std.proofs.Common.{◌≡◌, ℕ, zero, suc, ◌-◌, ◌≤◌, ◌<◌, Bool, true, false, cond, List, [], ◌∷◌, ◌++◌, Some, None, IsTrue, refl, sym, ap, ◌∙◌, arith, append_assoc, true≢false}
-use Rattle.std.specs.Prelude.{eqb, option_map}
+use Rattle.std.specs.Prelude.{eqb, option_map, not}
 use Rattle.std.proofs.lemmas.Bool.Decides.{nat_tests}
 use Rattle.rw_terms.specs.Names.{is_name}
 use Rattle.rw_terms.specs.declared.term.Term.{Term}
@@ -19,6 +19,7 @@ use Rattle.rw_syntax.proofs.Choices.{fits_to, shut_term, shut_formula}
 use Rattle.rw_printer.specs.Trees.{wrap, call_onto}
 use Rattle.rw_printer.specs.Readable.{both}
 use Rattle.rw_printer.proofs.Plain.{IsPlain, ArePlain}
+use Rattle.rw_terms.specs.declared.term.Formula.{Formula}
 
 -- the binders `_1` to `_d`, the innermost first
 abbrev pub places : ℕ → List Binder
@@ -49,7 +50,7 @@ term_fits wanted d t v low high s = go (fits wanted (level t)) refl
     go true e = record { fit = e; formed = s.formed; value = s.value; plain = s.plain }
     go false e = record { fit = fits_to wanted (shut (level t)) (let z = shut_term (level t) s.kind in omega arith) (λ x. absurd (omega arith)); formed = s.formed; value = s.value; plain = s.plain }
 
-pub formula_fits : (wanted d : ℕ) (t : Tree) (v : Rattle.rw_terms.specs.declared.term.Formula.Formula) → wanted ≤ 5 → Shown d t (parts.Formula v) → Fit wanted d (wrap wanted t) (parts.Formula v)
+pub formula_fits : (wanted d : ℕ) (t : Tree) (v : Formula) → wanted ≤ 5 → Shown d t (parts.Formula v) → Fit wanted d (wrap wanted t) (parts.Formula v)
 formula_fits wanted d t v high s = go (fits wanted (level t)) refl
   where
     go : (b : Bool) → fits wanted (level t) ≡ b → Fit wanted d (cond b t (group t)) (parts.Formula v)
@@ -90,7 +91,7 @@ pub split_both : (a b : Bool) → both a b ≡ true → (a ≡ true) × (b ≡ t
 split_both true b e = (refl, e)
 split_both false b e = absurd (true≢false (sym e))
 
-pub not_true : (b : Bool) → Rattle.std.specs.Prelude.not b ≡ true → b ≡ false
+pub not_true : (b : Bool) → not b ≡ true → b ≡ false
 not_true true e = absurd (true≢false (sym e))
 not_true false e = refl
 

@@ -1,6 +1,6 @@
 -- The token at the front of what is printed.
 use Rattle.std.proofs.Common.{◌≡◌, ℕ, suc, ◌+◌, ◌≤◌, ◌<◌, ◌^◌, Bool, true, false, cond, List, [], ◌∷◌, ◌++◌, length, take, drop, Some, None, refl, sym, ap, ◌∙◌, subst, arith}
-use Rattle.std.specs.Prelude.{eqb, leb, nat_eq, ◌&&◌, ◌||◌, codes, decimal, option_map}
+use Rattle.std.specs.Prelude.{eqb, leb, nat_eq, ◌&&◌, ◌||◌, codes, decimal, option_map, not}
 use Rattle.std.specs.List.{list_all, prefix_len}
 use Rattle.std.proofs.Math.Seq.{take-append_seam, drop-append_seam}
 use Rattle.std.proofs.lemmas.Bool.Decides.{nat_tests}
@@ -8,12 +8,12 @@ use Rattle.rw_terms.specs.Names.{is_letter, is_digit, goes_on, is_word, is_name,
 use Rattle.rw_syntax.specs.declared.token.Infix.{Infix}
 use Rattle.rw_syntax.specs.declared.token.Infix.TheVariants as infixes
 use Rattle.rw_syntax.specs.declared.token.Token.TheVariants as classes
-use Rattle.rw_reader.specs.Tokens.{Token, text, number, binder, is_blank, skip, token_at, front_token, with_next, text_of, word_of, digits_of, binder_of, from_1, number_of, is_among, doubles, singles}
+use Rattle.rw_reader.specs.Tokens.{text, number, binder, skip, token_at, front_token, with_next, text_of, word_of, digits_of, binder_of, from_1, number_of, is_among, doubles, singles, symbol_of}
 use Rattle.rw_reader.specs.Classes.{class_of, text_class, mark_texts}
 use Rattle.rw_printer.specs.Layout.{infix_text}
 use Rattle.rw_printer.proofs.Leading.{Leads, one, to, skip_space}
 use Rattle.rw_printer.proofs.Numerals.{decimal_digits, number_is}
-use Rattle.rw_printer.proofs.Marks.{word_class, initial_class}
+use Rattle.rw_printer.proofs.Marks.{split, word_class, initial_class}
 
 -- nothing, or a byte that ends words and numbers and makes no symbol with a bracket before it
 abbrev pub ends : List ℕ → Bool
@@ -53,10 +53,6 @@ no_digits : (r : List ℕ) → stops r ≡ true → prefix_len is_digit r ≡ 0
 no_digits [] e = refl
 no_digits (c ∷ cs) e = ap (λ b. cond b (1 + prefix_len is_digit cs) 0) (second_false (is_letter c) (is_digit c) (eqb c 95) (flipped (goes_on c) e))
 
-split : (a b : Bool) → (a && b) ≡ true → (a ≡ true) × (b ≡ true)
-split true b e = (refl, e)
-split false b e = absurd (cc)
-
 prefix_all : (p : ℕ → Bool) (xs r : List ℕ) → list_all p xs ≡ true → prefix_len p r ≡ 0 → prefix_len p (xs ++ r) ≡ length xs
 prefix_all p [] r h e = e
 prefix_all p (x ∷ xs) r h e =
@@ -75,7 +71,7 @@ unfolding token_at front_token
 word_front b bs r l g e =
     let w = b ∷ bs in
     let h : list_all goes_on w ≡ true = ap (λ x. (x || is_digit b || eqb b 95) && list_all goes_on bs) l ∙ g in
-    ap (λ x. option_map (with_next (w ++ r)) (cond x (word_of (w ++ r)) (cond (is_digit b) (digits_of (w ++ r)) (cond (eqb b 95) (binder_of (bs ++ r)) (Rattle.rw_reader.specs.Tokens.symbol_of (w ++ r)))))) l
+    ap (λ x. option_map (with_next (w ++ r)) (cond x (word_of (w ++ r)) (cond (is_digit b) (digits_of (w ++ r)) (cond (eqb b 95) (binder_of (bs ++ r)) (symbol_of (w ++ r)))))) l
     ∙ text_is w r (prefix_len goes_on (w ++ r)) (prefix_all goes_on w r h (no_more r e))
 
 -- the parts of a name
@@ -90,7 +86,7 @@ pub name_parts : (w : List ℕ) → is_name w ≡ true → NameParts w
 unfolding is_name
 name_parts [] e = absurd (cc)
 name_parts (b ∷ bs) e =
-    let q = split (is_letter b) (list_all goes_on bs) (split (is_word (b ∷ bs)) (leb (length (b ∷ bs)) 32) (split (is_word (b ∷ bs) && leb (length (b ∷ bs)) 32) _ (split (is_word (b ∷ bs) && leb (length (b ∷ bs)) 32 && Rattle.std.specs.Prelude.not (ends_with_0 (b ∷ bs))) _ e).0).0).0 in
+    let q = split (is_letter b) (list_all goes_on bs) (split (is_word (b ∷ bs)) (leb (length (b ∷ bs)) 32) (split (is_word (b ∷ bs) && leb (length (b ∷ bs)) 32) _ (split (is_word (b ∷ bs) && leb (length (b ∷ bs)) 32 && not (ends_with_0 (b ∷ bs))) _ e).0).0).0 in
     record { first = b; rest = bs; is = refl; letter = q.0; on = q.1 }
 
 pub word_leads : (w r : List ℕ) → is_name w ≡ true → stops r ≡ true → Leads (w ++ r) (classes.Word w ∷ []) (skip r)
@@ -127,8 +123,8 @@ number_front : (c : ℕ) (cs : List ℕ) → is_digit c ≡ true → front_token
 unfolding front_token
 number_front c cs h =
     let l : is_letter c ≡ false = grind (arith, nat_tests, h) in
-    ap (λ x. cond x (word_of (c ∷ cs)) (cond (is_digit c) (digits_of (c ∷ cs)) (cond (eqb c 95) (binder_of cs) (Rattle.rw_reader.specs.Tokens.symbol_of (c ∷ cs))))) l
-    ∙ ap (λ x. cond x (digits_of (c ∷ cs)) (cond (eqb c 95) (binder_of cs) (Rattle.rw_reader.specs.Tokens.symbol_of (c ∷ cs)))) h
+    ap (λ x. cond x (word_of (c ∷ cs)) (cond (is_digit c) (digits_of (c ∷ cs)) (cond (eqb c 95) (binder_of cs) (symbol_of (c ∷ cs))))) l
+    ∙ ap (λ x. cond x (digits_of (c ∷ cs)) (cond (eqb c 95) (binder_of cs) (symbol_of (c ∷ cs)))) h
 
 pub number_leads : (n : ℕ) (r : List ℕ) → leb n 170141183460469231731687303715884105727 ≡ true → stops r ≡ true → Leads (decimal n ++ r) (classes.Number n ∷ []) (skip r)
 unfolding token_at class_of
@@ -137,8 +133,8 @@ number_leads n r h e =
     let d : is_digit s.first ≡ true = (split (is_digit s.first) (list_all is_digit s.rest) (subst (λ x. list_all is_digit x ≡ true) s.is s.digits)).0 in
     let f : front_token (decimal n ++ r) ≡ digits_of (decimal n ++ r) = subst (λ x. front_token (x ++ r) ≡ digits_of (x ++ r)) (sym s.is) (number_front s.first (s.rest ++ r) d) in
     one (decimal n ++ r) (number n) (classes.Number n) (skip r)
-      (ap (option_map (with_next (decimal n ++ r))) (f ∙ ap (option_map (λ v. (number v, prefix_len is_digit (decimal n ++ r)))) (digits_are n r h e)) ∙ ap (λ x. Some (number n, skip x)) (digits_behind n r h e))
-      refl
+    (ap (option_map (with_next (decimal n ++ r))) (f ∙ ap (option_map (λ v. (number v, prefix_len is_digit (decimal n ++ r)))) (digits_are n r h e)) ∙ ap (λ x. Some (number n, skip x)) (digits_behind n r h e))
+    refl
 
 pub place_leads : (n : ℕ) (r : List ℕ) → 1 ≤ n → leb n 170141183460469231731687303715884105727 ≡ true → stops r ≡ true → Leads ((codes "_" ++ decimal n) ++ r) (classes.Place n ∷ []) (skip r)
 unfolding token_at front_token class_of
@@ -146,13 +142,12 @@ place_leads n r low h e =
     let k = prefix_len is_digit (decimal n ++ r) in
     let l : leb 1 n ≡ true = grind (arith, nat_tests, low) in
     one (95 ∷ (decimal n ++ r)) (binder n) (classes.Place n) (skip r)
-      (ap (λ o. option_map (with_next (95 ∷ (decimal n ++ r))) (from_1 k o)) (digits_are n r h e)
-       ∙ ap (λ b. option_map (with_next (95 ∷ (decimal n ++ r))) (cond b (Some (binder n, k + 1)) None)) l
-       ∙ ap (λ x. Some (binder n, skip x)) (ap (λ m. drop m (95 ∷ (decimal n ++ r))) (let z : k + 1 ≡ suc k = omega arith in z) ∙ digits_behind n r h e))
-      refl
+    (ap (λ o. option_map (with_next (95 ∷ (decimal n ++ r))) (from_1 k o)) (digits_are n r h e)
+    ∙ ap (λ b. option_map (with_next (95 ∷ (decimal n ++ r))) (cond b (Some (binder n, k + 1)) None)) l
+    ∙ ap (λ x. Some (binder n, skip x)) (ap (λ m. drop m (95 ∷ (decimal n ++ r))) (let z : k + 1 ≡ suc k = omega arith in z) ∙ digits_behind n r h e))
+    refl
 
 -- symbols
-
 
 shut_bracket : (c : ℕ) → nat_eq c 124 ≡ false → is_among doubles (93 ∷ c ∷ []) ≡ false
 unfolding doubles

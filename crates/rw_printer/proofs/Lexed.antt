@@ -6,7 +6,7 @@ use Rattle.std.proofs.lemmas.Bool.Decides.{nat_tests}
 use Rattle.rw_terms.specs.Names.{is_letter, is_digit, is_name}
 use Rattle.rw_terms.specs.declared.term.Sort.{Sort}
 use Rattle.rw_terms.specs.declared.term.Sort.TheVariants as sorts
-use Rattle.rw_syntax.specs.declared.token.Infix.{Infix}
+use Rattle.rw_syntax.specs.declared.token.Infix.TheVariants as infixes
 use Rattle.rw_syntax.specs.declared.token.Quantifier.{Quantifier}
 use Rattle.rw_syntax.specs.declared.token.Quantifier.TheVariants as quantifiers
 use Rattle.rw_syntax.specs.declared.token.Token.TheVariants as classes
@@ -135,10 +135,10 @@ leaf_leads (place n) k d p h w r e = let a = p.0 in let b = p.1 in place_leads n
 leaf_leads (truth true) k d p h w r e = true_leads r (ends_stops r e)
 leaf_leads (truth false) k d p h w r e = false_leads r (ends_stops r e)
 
-minus_before : (y : List ℕ) → Starts y → Leads (45 ∷ y) (classes.Infix Rattle.rw_syntax.specs.declared.token.Infix.TheVariants.Minus ∷ []) y
+minus_before : (y : List ℕ) → Starts y → Leads (45 ∷ y) (classes.Infix infixes.Minus ∷ []) y
 minus_before y s =
     let n : nat_eq s.first 62 ≡ false = (let h = s.ok in grind (arith, nat_tests, h)) in
-    to (skip_start y s) (subst (λ x. Leads (45 ∷ x) (classes.Infix Rattle.rw_syntax.specs.declared.token.Infix.TheVariants.Minus ∷ []) (skip x)) (sym s.is) (minus_leads s.first s.rest n))
+    to (skip_start y s) (subst (λ x. Leads (45 ∷ x) (classes.Infix infixes.Minus ∷ []) (skip x)) (sym s.is) (minus_leads s.first s.rest n))
 
 bracket_before : (y : List ℕ) → Starts y → Leads (91 ∷ y) (classes.OpenSquare ∷ []) y
 bracket_before y s =

@@ -14,7 +14,7 @@ use Rattle.rw_reader.specs.Classes.{mark_texts, mark_in, shorter, name_class, cl
 abbrev none_passes : (List ℕ → Bool) → List (List ℕ × Mark) → Bool
 none_passes p ks = list_all (λ k. not (p k.0)) ks
 
-split : (a b : Bool) → (a && b) ≡ true → (a ≡ true) × (b ≡ true)
+pub split : (a b : Bool) → (a && b) ≡ true → (a ≡ true) × (b ≡ true)
 split true b e = (refl, e)
 split false b e = absurd (cc)
 

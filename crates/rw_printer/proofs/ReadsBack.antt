@@ -17,12 +17,13 @@ use Rattle.rw_printer.proofs.Leading.{from, to}
 use Rattle.rw_printer.proofs.Lexed.{lexed, starts, skip_start}
 use Rattle.rw_printer.proofs.ShownTerms.{prints as term_prints}
 use Rattle.rw_printer.proofs.ShownFormulas.{prints as formula_prints}
+use Rattle.std.specs.Prelude.{IsTrue}
 
 skip_end : skip [] ≡ []
 unfolding skip
 skip_end = refl
 
-spelled : (goal : ℕ) (t : Tree) (v : Part) → Rattle.std.specs.Prelude.IsTrue (fits goal (level t)) → Shown 0 t v → AreWithin (nests 0 t) → TextSpells goal (laid t) v
+spelled : (goal : ℕ) (t : Tree) (v : Part) → IsTrue (fits goal (level t)) → Shown 0 t v → AreWithin (nests 0 t) → TextSpells goal (laid t) v
 spelled goal t v f s w =
     let l = from (skip_start (laid t) (starts t 0 s.plain) ∙ sym (append-nil (laid t))) (to skip_end (lexed t 0 0 s.plain (omega arith) w [] refl)) in
     (l.tokens, l.leads, (_, l.classes, record { tree = t; formed = s.formed; fit = f; written = refl; value = s.value; within = w }))

@@ -16,11 +16,12 @@ use Rattle.rw_syntax.specs.declared.token.Quantifier.TheVariants as quantifiers
 use Rattle.rw_syntax.specs.declared.frame.Part.TheVariants as parts
 use Rattle.rw_syntax.specs.declared.frame.Binder.TheVariants as binders
 use Rattle.rw_syntax.specs.declared.frame.Prefix.TheVariants as prefixes
-use Rattle.rw_syntax.specs.Grammar.{none, level, level_of, left_of, right_of, is_upper, is_sort, joined, prefixed, part, Tree}
+use Rattle.rw_syntax.specs.Grammar.{none, level, level_of, left_of, right_of, is_upper, is_sort, joined, prefixed, Tree, binary}
 use Rattle.rw_printer.specs.Trees.{wrap, is_quantified, conclusion_level, infix_tree, quantified_tree, term_tree, formula_tree_step, formula_tree}
 use Rattle.rw_printer.specs.Readable.{both, all_of, readable_term, readable_step, readable_formula, named_term, named_terms, named_step, named_formula}
 use Rattle.rw_printer.proofs.Fits.{Shown, Fit, term_fits, formula_fits, infix_shown, split_both, Called, called}
 use Rattle.rw_printer.proofs.ShownTerms.{prints as term_prints, all_fit}
+use Rattle.rw_syntax.proofs.Choices.{fits_of, fits_to}
 
 abbrev pub Prints : Formula → Type 0
 Prints f = (d : ℕ) → readable_formula f d ≡ true → named_formula f ≡ true → Shown d (formula_tree f d) (parts.Formula f)
@@ -37,14 +38,14 @@ relates d op s t v e k l r p n =
     let q = split_both (readable_term s d) (readable_term t d) p in
     let m = split_both (named_term s) (named_term t) n in
     infix_shown d op (wrap (left_of op) (term_tree s d)) (wrap (right_of op) (term_tree t d)) (parts.Term s) (parts.Term t) (parts.Formula v) e (omega arith, omega arith)
-      (term_fits (left_of op) d (term_tree s d) s (omega arith) (omega arith) (term_prints s d q.0 m.0))
-      (term_fits (right_of op) d (term_tree t d) t (omega arith) (omega arith) (term_prints t d q.1 m.1))
+    (term_fits (left_of op) d (term_tree s d) s (omega arith) (omega arith) (term_prints s d q.0 m.0))
+    (term_fits (right_of op) d (term_tree t d) t (omega arith) (omega arith) (term_prints t d q.1 m.1))
 
 operand : (wanted d : ℕ) (a : (f : Formula) × Prints f) → wanted ≤ 5 → readable_formula a.0 d ≡ true → named_formula a.0 ≡ true → Fit wanted d (wrap wanted (formula_tree a.0 d)) (parts.Formula a.0)
 operand wanted d a high p n = formula_fits wanted d (formula_tree a.0 d) a.0 high (a.1 d p n)
 
 -- a connective between two formulas, of which the right one is wanted at a level
-joins : (d : ℕ) (op : Infix) (least : ℕ) (a b : (f : Formula) × Prints f) (v : Formula) → joined op (parts.Formula a.0) (parts.Formula b.0) ≡ parts.Formula v → 1 ≤ level_of op → level_of op < 6 → left_of op ≤ 5 → right_of op ≤ least → least ≤ 5 → both (readable_formula a.0 d) (readable_formula b.0 d) ≡ true → both (named_formula a.0) (named_formula b.0) ≡ true → Shown d (Rattle.rw_syntax.specs.Grammar.binary op (wrap (left_of op) (formula_tree a.0 d)) (wrap least (formula_tree b.0 d))) (parts.Formula v)
+joins : (d : ℕ) (op : Infix) (least : ℕ) (a b : (f : Formula) × Prints f) (v : Formula) → joined op (parts.Formula a.0) (parts.Formula b.0) ≡ parts.Formula v → 1 ≤ level_of op → level_of op < 6 → left_of op ≤ 5 → right_of op ≤ least → least ≤ 5 → both (readable_formula a.0 d) (readable_formula b.0 d) ≡ true → both (named_formula a.0) (named_formula b.0) ≡ true → Shown d (binary op (wrap (left_of op) (formula_tree a.0 d)) (wrap least (formula_tree b.0 d))) (parts.Formula v)
 joins d op least a b v e k1 k2 l r1 r2 p n =
     let q = split_both (readable_formula a.0 d) (readable_formula b.0 d) p in
     let m = split_both (named_formula a.0) (named_formula b.0) n in
@@ -52,8 +53,8 @@ joins d op least a b v e k1 k2 l r1 r2 p n =
   where
     looser : (least more : ℕ) → Fit least d (wrap least (formula_tree b.0 d)) (parts.Formula b.0) → more ≤ least → least ≤ 5 → Fit more d (wrap least (formula_tree b.0 d)) (parts.Formula b.0)
     looser least more x h k =
-        let y = Rattle.rw_syntax.proofs.Choices.fits_of least (level (wrap least (formula_tree b.0 d))) x.fit in
-        record { fit = Rattle.rw_syntax.proofs.Choices.fits_to more (level (wrap least (formula_tree b.0 d))) (let z = y.0 in omega arith) (λ w. y.1 (omega arith)); formed = x.formed; value = x.value; plain = x.plain }
+        let y = fits_of least (level (wrap least (formula_tree b.0 d))) x.fit in
+        record { fit = fits_to more (level (wrap least (formula_tree b.0 d))) (let z = y.0 in omega arith) (λ w. y.1 (omega arith)); formed = x.formed; value = x.value; plain = x.plain }
 
 conclusion_within : (t : Tree) → (1 ≤ conclusion_level t) × (conclusion_level t ≤ 5)
 conclusion_within t = go (is_quantified t)

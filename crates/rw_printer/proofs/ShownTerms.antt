@@ -15,7 +15,7 @@ use Rattle.rw_syntax.specs.declared.frame.Part.TheVariants as parts
 use Rattle.rw_syntax.specs.declared.frame.Prefix.TheVariants as prefixes
 use Rattle.rw_syntax.specs.declared.frame.Head.TheVariants as heads
 use Rattle.rw_syntax.specs.Grammar.{word, leaf, none, level, level_of, left_of, right_of, is_some, is_upper, bound_or, named, joined, prefixed, read_at, applied, as_term, part, Tree}
-use Rattle.rw_printer.specs.Trees.{wrap, application, term_tree_step, term_tree, argument_trees}
+use Rattle.rw_printer.specs.Trees.{wrap, term_tree_step, term_tree, argument_trees, infix_tree}
 use Rattle.rw_printer.specs.Readable.{both, all_of, readable_term_step, readable_term, named_term_step, named_term, named_terms}
 use Rattle.rw_printer.proofs.Fits.{places, Shown, Fit, term_fits, numbered_only, found, infix_shown, split_both, not_true, AreFit, Called, called}
 
@@ -34,7 +34,7 @@ word_shown d x v e n = record { formed = refl; value = ap (bound_or (named x)) (
 operand : (wanted d : ℕ) (a : (t : Term) × Prints t) → 6 ≤ wanted → wanted ≤ 9 → readable_term a.0 d ≡ true → named_term a.0 ≡ true → Fit wanted d (wrap wanted (term_tree a.0 d)) (parts.Term a.0)
 operand wanted d a low high p n = term_fits wanted d (term_tree a.0 d) a.0 low high (a.1 d p n)
 
-joins : (d : ℕ) (op : Infix) (a b : (t : Term) × Prints t) (v : Term) → joined op (parts.Term a.0) (parts.Term b.0) ≡ parts.Term v → 6 ≤ level_of op → 6 ≤ left_of op → left_of op ≤ 9 → 6 ≤ right_of op → right_of op ≤ 9 → both (readable_term a.0 d) (readable_term b.0 d) ≡ true → both (named_term a.0) (named_term b.0) ≡ true → Shown d (Rattle.rw_printer.specs.Trees.infix_tree op (term_tree a.0 d) (term_tree b.0 d)) (parts.Term v)
+joins : (d : ℕ) (op : Infix) (a b : (t : Term) × Prints t) (v : Term) → joined op (parts.Term a.0) (parts.Term b.0) ≡ parts.Term v → 6 ≤ level_of op → 6 ≤ left_of op → left_of op ≤ 9 → 6 ≤ right_of op → right_of op ≤ 9 → both (readable_term a.0 d) (readable_term b.0 d) ≡ true → both (named_term a.0) (named_term b.0) ≡ true → Shown d (infix_tree op (term_tree a.0 d) (term_tree b.0 d)) (parts.Term v)
 joins d op a b v e k l1 l2 r1 r2 p n =
     let q = split_both (readable_term a.0 d) (readable_term b.0 d) p in
     let m = split_both (named_term a.0) (named_term b.0) n in

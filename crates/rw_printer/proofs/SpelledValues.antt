@@ -24,6 +24,7 @@ use Rattle.rw_syntax.specs.declared.frame.Head.{Head}
 use Rattle.rw_syntax.specs.declared.frame.Head.TheVariants as heads
 use Rattle.rw_syntax.specs.Grammar.{Leaf, number, word, initial, place, truth, Tree, leaf, prefix, binary, group, index, call, Trees, none, more, is_upper, is_sort, is_binder, is_known, is_prefix, find, same_binder, inner, named, bound_or, leaf_part, as_term, as_formula, prefixed, joined, put_of, applied, part, values, IsFormed, AreFormed, Reads}
 use Rattle.rw_printer.specs.Readable.{both, all_of, some_and_all, readable_term_step, readable_term, readable_step, readable_formula}
+use Rattle.rw_printer.proofs.Fits.{split_both}
 
 abbrev IsGood : ℕ → Part → Type 0
 IsGood n (parts.Term t) = readable_term t n ≡ true
@@ -118,7 +119,7 @@ AreGood n ts = all_of (map (λ a. a n) (map readable_term ts)) ≡ true
 one_more : (n : ℕ) (ts : List Term) (t : Term) → AreGood n ts → readable_term t n ≡ true → AreGood n (ts ++ t ∷ [])
 one_more n [] t g h = both_true (readable_term t n) true h refl
 one_more n (k ∷ ks) t g h =
-    let q = Rattle.rw_printer.proofs.Fits.split_both (readable_term k n) (all_of (map (λ a. a n) (map readable_term ks))) g in
+    let q = split_both (readable_term k n) (all_of (map (λ a. a n) (map readable_term ks))) g in
     both_true (readable_term k n) (all_of (map (λ a. a n) (map readable_term (ks ++ t ∷ [])))) q.0 (one_more n ks t q.1 h)
 
 some_more : (n : ℕ) (ts : List Term) (t : Term) → AreGood n ts → readable_term t n ≡ true → some_and_all (map (λ a. a n) (map readable_term (ts ++ t ∷ []))) ≡ true
@@ -129,8 +130,8 @@ put_good : (n : ℕ) (ts : List Term) (e : Term) → AreGood n ts → readable_t
 put_good n [] e g h = h
 put_good n (a ∷ []) e g h = h
 put_good n (a ∷ i ∷ []) e g h =
-    let q = Rattle.rw_printer.proofs.Fits.split_both (readable_term a n) (both (readable_term i n) true) g in
-    let r = Rattle.rw_printer.proofs.Fits.split_both (readable_term i n) true q.1 in
+    let q = split_both (readable_term a n) (both (readable_term i n) true) g in
+    let r = split_both (readable_term i n) true q.1 in
     term_good (Term-F.Put a i e) n (both_true (readable_term a n) (both (readable_term i n) (readable_term e n)) q.0 (both_true (readable_term i n) (readable_term e n) r.0 h))
 put_good n (a ∷ i ∷ j ∷ ts) e g h = h
 

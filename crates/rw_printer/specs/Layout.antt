@@ -56,6 +56,7 @@ abbrev pub sort_text : Sort → List ℕ
 sort_text sorts.Int = codes "int"
 sort_text (sorts.Array n) = codes "array " ++ decimal n
 
+-- how a quantifier is written
 abbrev pub quantifier_text : Quantifier → List ℕ
 quantifier_text quantifiers.All = codes "forall"
 quantifier_text quantifiers.Any = codes "exists"
@@ -66,6 +67,7 @@ prefix_text prefixes.Minus = codes "-"
 prefix_text prefixes.Not = codes "not "
 prefix_text (prefixes.Bind q b s) = quantifier_text q ++ codes " " ++ binder_text b ++ codes ":" ++ sort_text s ++ codes " . "
 
+-- how a head is written
 abbrev pub head_text : Head → List ℕ
 head_text heads.Put = codes "put"
 head_text (heads.Named w) = w

@@ -46,6 +46,7 @@ readable_term_step (Term-F.Read a i) d = both (a d) (i d)
 readable_term_step (Term-F.Put a i e) d = both (a d) (both (i d) (e d))
 readable_term_step (Term-F.Fun f args) d = both (not (is_upper f)) (some_and_all (map (λ a. a d) args))
 
+-- whether some text spells a term, behind so many binders
 abbrev pub readable_term : Term → ℕ → Bool
 readable_term = fold-Term (ℕ → Bool) readable_term_step
 
@@ -64,10 +65,11 @@ readable_step (Formula-F.All s f) d = both (is_sort s) (f (suc d))
 readable_step (Formula-F.Any s f) d = both (is_sort s) (f (suc d))
 readable_step (Formula-F.App p args) d = both (is_upper p) (some_and_all (map (λ a. a d) (map readable_term args)))
 
+-- whether some text spells a formula, behind so many binders
 abbrev pub readable_formula : Formula → ℕ → Bool
 readable_formula = fold-Formula (ℕ → Bool) readable_step
 
--- whether each name of a term is a name, which is so of every term that code holds
+-- A name of a term that code holds is always one.
 abbrev pub named_term_step : Term-F Bool → Bool
 named_term_step (Term-F.Lit z) = true
 named_term_step (Term-F.Var x) = is_name x
@@ -84,12 +86,15 @@ named_term_step (Term-F.Read a i) = both a i
 named_term_step (Term-F.Put a i e) = both a (both i e)
 named_term_step (Term-F.Fun f args) = both (is_name f) (all_of args)
 
+-- whether each name of a term is one
 abbrev pub named_term : Term → Bool
 named_term = fold-Term Bool named_term_step
 
+-- of a list of terms
 abbrev pub named_terms : List Term → Bool
 named_terms ts = all_of (map named_term ts)
 
+-- of a formula
 abbrev pub named_step : Formula-F Bool → Bool
 named_step Formula-F.True = true
 named_step Formula-F.False = true
@@ -104,5 +109,6 @@ named_step (Formula-F.All s f) = f
 named_step (Formula-F.Any s f) = f
 named_step (Formula-F.App p args) = both (is_name p) (named_terms args)
 
+-- whether each name of a formula is one
 abbrev pub named_formula : Formula → Bool
 named_formula = fold-Formula Bool named_step

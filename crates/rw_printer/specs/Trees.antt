@@ -50,6 +50,7 @@ is_quantified (call h ts t) = false
 abbrev pub conclusion_level : Tree → ℕ
 conclusion_level t = cond (is_quantified t) 2 1
 
+-- an implication
 abbrev pub implication_tree : Tree → Tree → Tree
 implication_tree l r = binary infixes.Implies (wrap 2 l) (wrap (conclusion_level r) r)
 
@@ -101,6 +102,7 @@ term_tree = fold-Term (ℕ → Tree) term_tree_step
 abbrev pub argument_trees : List Term → ℕ → List Tree
 argument_trees ts d = arguments (map term_tree ts) d
 
+-- a formula's tree, from those of its parts
 abbrev pub formula_tree_step : Formula-F (ℕ → Tree) → ℕ → Tree
 formula_tree_step Formula-F.True d = leaf (truth true)
 formula_tree_step Formula-F.False d = leaf (truth false)

@@ -18,12 +18,7 @@ use std::alloc::AllocError;
 
 /// Writes a term where one of a level is wanted, behind so many binders.
 #[cycle(push_term)]
-pub fn push_operand(
-    text: &mut Text,
-    depth: u64,
-    wanted: u8,
-    term: &Term,
-) -> Result<(), AllocError>
+pub fn push_operand(text: &mut Text, depth: u64, wanted: u8, term: &Term) -> Result<(), AllocError>
     ensures text { OnOk result (text.new ≡ text.old ++ laid (wrap wanted (term_tree term.now depth))) }
     ensures names { OnOk result (IsTrue (named_term term.now)) }
 {

@@ -114,6 +114,26 @@ fn formulas_are_printed(rt: HostRuntime) -> Result<(), Fail> {
     )
 }
 
+// So many fronts, and a middle.
+fn nested(alloc: Global, times: usize, front: &[u8], middle: &[u8]) -> Result<Vec<u8>, Fail> {
+    let mut text = Vec::new(alloc);
+    for _ in 0..times {
+        text.extend_from_slice(front)?;
+    }
+    text.extend_from_slice(middle)?;
+    Ok(text)
+}
+
+#[test]
+fn what_is_deepest_is_printed(rt: HostRuntime) -> Result<(), Fail> {
+    let minus = nested(rt.alloc(), 512, b"-", b"x")?;
+    terms(&rt, rt.alloc(), &[(&minus, &minus)])?;
+    let sum = nested(rt.alloc(), 512, b"x + ", b"x")?;
+    terms(&rt, rt.alloc(), &[(&sum, &sum)])?;
+    let nots = nested(rt.alloc(), 512, b"not ", b"true")?;
+    formulas(&rt, rt.alloc(), &[(&nots, &nots)])
+}
+
 fn name(text: &[u8]) -> Result<Name, Fail> {
     Ok(Name::read(text)?)
 }
