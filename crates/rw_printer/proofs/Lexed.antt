@@ -16,16 +16,16 @@ use Rattle.rw_syntax.specs.declared.frame.Head.{Head}
 use Rattle.rw_syntax.specs.declared.frame.Head.TheVariants as heads
 use Rattle.rw_syntax.specs.Grammar as grammar
 use Rattle.rw_syntax.specs.Grammar.{Leaf, number, word, initial, place, truth, Tree, leaf, prefix, binary, group, index, call, Trees, none, more, is_known, is_sort, leaf_token, head_token, texts, level, chain, adds, nests, each_nests, each}
-use Rattle.rw_syntax.specs.Spelling.{AreWithin}
 use Rattle.rw_reader.specs.Tokens.{text, is_blank, skip, token_at, front_token, doubles, singles}
 use Rattle.rw_reader.specs.Classes.{class_of, text_class, mark_texts}
 use Rattle.rw_printer.specs.Layout.{infix_text, leaf_text, sort_text, quantifier_text, prefix_text, head_text, laid, laid_each}
+use Rattle.rw_printer.specs.ReadsBack.{StaysWithin}
 use Rattle.rw_printer.proofs.Plain.{PlainLeaf, PlainPrefix, PlainHead, IsPlain, ArePlain, behind}
 use Rattle.rw_printer.proofs.Leading.{Leads, nothing, one, join, from, to, skip_space, skip_none}
 use Rattle.rw_printer.proofs.Numerals.{decimal_digits}
 use Rattle.rw_printer.proofs.Fronts.{ends, begins, stops, ends_stops, small, word_front, name_parts, word_leads, initial_leads, number_leads, place_leads, open_leads, close_leads, comma_leads, dot_leads, open_square_leads, close_square_leads, minus_leads, infix_leads}
 
-within_split : (xs ys : List ℕ) → AreWithin (xs ++ ys) → AreWithin xs × AreWithin ys
+within_split : (xs ys : List ℕ) → StaysWithin (xs ++ ys) → StaysWithin xs × StaysWithin ys
 within_split [] ys w = (tt, w)
 within_split (x ∷ xs) ys w = let q = within_split xs ys w.1 in ((w.0, q.0), q.1)
 
@@ -187,13 +187,13 @@ deeper prefixes.Minus k d h = omega arith
 deeper prefixes.Not k d h = omega arith
 deeper (prefixes.Bind q b s) k d h = omega arith
 
-prefix_within : (p : Prefix) (k : ℕ) (ns : List ℕ) → AreWithin (each (suc k) (grammar.prefix_text p) ++ ns) → (suc k ≤ 512) × AreWithin ns
+prefix_within : (p : Prefix) (k : ℕ) (ns : List ℕ) → StaysWithin (each (suc k) (grammar.prefix_text p) ++ ns) → (suc k ≤ 512) × StaysWithin ns
 prefix_within prefixes.Minus k ns w = (w.0, w.1)
 prefix_within prefixes.Not k ns w = (w.0, w.1)
 prefix_within (prefixes.Bind q b s) k ns w = (w.0, (within_split (each (suc k) (grammar.prefix_text (prefixes.Bind q b s))) ns w).1)
 
 mutual
-  pub lexed : (t : Tree) (k d : ℕ) → IsPlain d t → d ≤ k → AreWithin (nests k t) → (r : List ℕ) → ends r ≡ true → Leads (laid t ++ r) (grammar.text t) (skip r)
+  pub lexed : (t : Tree) (k d : ℕ) → IsPlain d t → d ≤ k → StaysWithin (nests k t) → (r : List ℕ) → ends r ≡ true → Leads (laid t ++ r) (grammar.text t) (skip r)
   lexed (leaf l) k d p h w r e = leaf_leads l k d p h w.0 r e
   lexed (prefix q t) k d p h w r e =
       let v = prefix_within q k (nests (suc k) t) w in
@@ -234,7 +234,7 @@ mutual
       (join (to (skip_none 41 r refl) (lexed t (suc k) d p.2 (omega arith) v2.0 (41 ∷ r) refl))
       (close_leads r)))))
 
-  lexed_each : (ts : Trees) (k d : ℕ) → ArePlain d ts → d ≤ k → AreWithin (each_nests k ts) → (y : List ℕ) → Starts y → Leads (laid_each ts ++ y) (texts ts) y
+  lexed_each : (ts : Trees) (k d : ℕ) → ArePlain d ts → d ≤ k → StaysWithin (each_nests k ts) → (y : List ℕ) → Starts y → Leads (laid_each ts ++ y) (texts ts) y
   lexed_each none k d p h w y s = nothing y
   lexed_each (more ts t) k d p h w y s =
       let v = within_split (each_nests k ts) (nests k t ++ k ∷ []) w in
