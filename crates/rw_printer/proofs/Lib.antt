@@ -1,0 +1,13 @@
+pub mod LevelLemmas
+pub mod Calls
+pub mod Plain
+pub mod Fits
+pub mod ShownTerms
+pub mod ShownFormulas
+pub mod Leading
+pub mod Numerals
+pub mod Marks
+pub mod Fronts
+pub mod Lexed
+pub mod ReadsBack
+pub mod SpelledValues

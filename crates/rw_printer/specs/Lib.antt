@@ -1,0 +1,4 @@
+pub mod Trees
+pub mod Layout
+pub mod Readable
+pub mod ReadsBack

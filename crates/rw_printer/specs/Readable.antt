@@ -1,0 +1,114 @@
+-- Which terms and formulas some text spells.
+use Rattle.std.specs.Prelude.{ℕ, suc, Bool, true, false, not, cond, ltb, List, [], ◌∷◌, map, ℤ, pos, negsuc}
+use Rattle.rw_terms.specs.declared.term.Term.{Term}
+use Rattle.rw_terms.specs.declared.term.Term.TheOpen.{Term-F}
+use Rattle.rw_terms.specs.declared.term.Term.TheFolds.{fold-Term}
+use Rattle.rw_terms.specs.declared.term.Formula.{Formula}
+use Rattle.rw_terms.specs.declared.term.Formula.TheOpen.{Formula-F}
+use Rattle.rw_terms.specs.declared.term.Formula.TheFolds.{fold-Formula}
+use Rattle.rw_terms.specs.Names.{is_name}
+use Rattle.rw_syntax.specs.Grammar.{number, initial, is_known, is_sort, is_upper}
+
+-- both at once
+abbrev pub both : Bool → Bool → Bool
+both a b = cond a b false
+
+-- each of them
+abbrev pub all_of : List Bool → Bool
+all_of [] = true
+all_of (b ∷ bs) = both b (all_of bs)
+
+-- each of them, and there is one
+abbrev pub some_and_all : List Bool → Bool
+some_and_all [] = false
+some_and_all (b ∷ bs) = all_of (b ∷ bs)
+
+-- a literal that is not negative and at most 2 ^ 127 - 1
+abbrev pub is_literal : ℤ → Bool
+is_literal (pos n) = is_known [] (number n)
+is_literal (negsuc n) = false
+
+-- Behind d binders: no negative literal, no loose binder, variables and functions with a lower-case first letter,
+-- constants with an upper-case one, and no empty list of terms.
+abbrev pub readable_term_step : Term-F (ℕ → Bool) → ℕ → Bool
+readable_term_step (Term-F.Lit z) d = is_literal z
+readable_term_step (Term-F.Var x) d = not (is_upper x)
+readable_term_step (Term-F.Init x) d = is_known [] (initial x)
+readable_term_step (Term-F.Const x) d = is_upper x
+readable_term_step (Term-F.Bound k) d = ltb k d
+readable_term_step (Term-F.Neg a) d = a d
+readable_term_step (Term-F.Add a b) d = both (a d) (b d)
+readable_term_step (Term-F.Sub a b) d = both (a d) (b d)
+readable_term_step (Term-F.Mul a b) d = both (a d) (b d)
+readable_term_step (Term-F.Div a b) d = both (a d) (b d)
+readable_term_step (Term-F.Mod a b) d = both (a d) (b d)
+readable_term_step (Term-F.Read a i) d = both (a d) (i d)
+readable_term_step (Term-F.Put a i e) d = both (a d) (both (i d) (e d))
+readable_term_step (Term-F.Fun f args) d = both (not (is_upper f)) (some_and_all (map (λ a. a d) args))
+
+-- whether some text spells a term, behind so many binders
+abbrev pub readable_term : Term → ℕ → Bool
+readable_term = fold-Term (ℕ → Bool) readable_term_step
+
+-- Predicates begin with an upper-case letter, and the lengths of arrays are 1 to 1024.
+abbrev pub readable_step : Formula-F (ℕ → Bool) → ℕ → Bool
+readable_step Formula-F.True d = true
+readable_step Formula-F.False d = true
+readable_step (Formula-F.Eq s t) d = both (readable_term s d) (readable_term t d)
+readable_step (Formula-F.Less s t) d = both (readable_term s d) (readable_term t d)
+readable_step (Formula-F.AtMost s t) d = both (readable_term s d) (readable_term t d)
+readable_step (Formula-F.Not f) d = f d
+readable_step (Formula-F.And f g) d = both (f d) (g d)
+readable_step (Formula-F.Or f g) d = both (f d) (g d)
+readable_step (Formula-F.Imp f g) d = both (f d) (g d)
+readable_step (Formula-F.All s f) d = both (is_sort s) (f (suc d))
+readable_step (Formula-F.Any s f) d = both (is_sort s) (f (suc d))
+readable_step (Formula-F.App p args) d = both (is_upper p) (some_and_all (map (λ a. a d) (map readable_term args)))
+
+-- whether some text spells a formula, behind so many binders
+abbrev pub readable_formula : Formula → ℕ → Bool
+readable_formula = fold-Formula (ℕ → Bool) readable_step
+
+-- A name of a term that code holds is always one.
+abbrev pub named_term_step : Term-F Bool → Bool
+named_term_step (Term-F.Lit z) = true
+named_term_step (Term-F.Var x) = is_name x
+named_term_step (Term-F.Init x) = is_name x
+named_term_step (Term-F.Const x) = is_name x
+named_term_step (Term-F.Bound k) = true
+named_term_step (Term-F.Neg a) = a
+named_term_step (Term-F.Add a b) = both a b
+named_term_step (Term-F.Sub a b) = both a b
+named_term_step (Term-F.Mul a b) = both a b
+named_term_step (Term-F.Div a b) = both a b
+named_term_step (Term-F.Mod a b) = both a b
+named_term_step (Term-F.Read a i) = both a i
+named_term_step (Term-F.Put a i e) = both a (both i e)
+named_term_step (Term-F.Fun f args) = both (is_name f) (all_of args)
+
+-- whether each name of a term is one
+abbrev pub named_term : Term → Bool
+named_term = fold-Term Bool named_term_step
+
+-- of a list of terms
+abbrev pub named_terms : List Term → Bool
+named_terms ts = all_of (map named_term ts)
+
+-- of a formula
+abbrev pub named_step : Formula-F Bool → Bool
+named_step Formula-F.True = true
+named_step Formula-F.False = true
+named_step (Formula-F.Eq s t) = both (named_term s) (named_term t)
+named_step (Formula-F.Less s t) = both (named_term s) (named_term t)
+named_step (Formula-F.AtMost s t) = both (named_term s) (named_term t)
+named_step (Formula-F.Not f) = f
+named_step (Formula-F.And f g) = both f g
+named_step (Formula-F.Or f g) = both f g
+named_step (Formula-F.Imp f g) = both f g
+named_step (Formula-F.All s f) = f
+named_step (Formula-F.Any s f) = f
+named_step (Formula-F.App p args) = both (is_name p) (named_terms args)
+
+-- whether each name of a formula is one
+abbrev pub named_formula : Formula → Bool
+named_formula = fold-Formula Bool named_step
