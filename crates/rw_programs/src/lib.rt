@@ -2,6 +2,8 @@
 #![tactic(auto)]
 
 pub mod applied;
+pub mod code;
 pub mod copying;
 pub mod laws;
 pub mod prog;
+
