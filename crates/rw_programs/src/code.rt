@@ -20,7 +20,8 @@ pub fn is_code(prog: &Prog) -> bool
         Prog::Seq(first, second) => is_code(first.get()) && is_code(second.get()),
         Prog::If(arms) => are_code(arms.as_slice()),
         Prog::Do(variant, arms) => is_plain(variant) && are_code(arms.as_slice()),
-        Prog::Block(_, _, body) | Prog::ModBlock(_, body) => is_code(body.get()),
+        Prog::Block(_, _, body) => is_code(body.get()),
+        Prog::ModBlock(_, body) => is_code(body.get()),
         Prog::Call(_, args, _) | Prog::OpCall(_, _, args, _) => are_plain(args.as_slice()),
     }
 }
