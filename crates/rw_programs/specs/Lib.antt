@@ -5,4 +5,4 @@ pub mod Meaning
 pub mod Refine
 pub mod Laws
 pub mod CodeTest
-
+pub mod Scoped

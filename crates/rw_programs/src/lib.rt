@@ -6,4 +6,5 @@ pub mod code;
 pub mod copying;
 pub mod laws;
 pub mod prog;
-
+pub mod scoped;
+pub mod sorted;
