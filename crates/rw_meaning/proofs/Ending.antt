@@ -109,7 +109,7 @@ module _ (E : Table) (calls before : Bodies) (brings : Name → List Entry) wher
         module_keeps opened q.0 scope r.0 m c q.1 r.1 fit.0
         (ends_fit q.0 r.0 c r.2 (where_is (with_entries scope (brings m)) r.0 (λ inner. EachPart brings CallFits q.0 inner c) r.1 part))
 
-    row_fits : {m : _} (opened : List Name) (scope : List Entry) (arms : Row_of-Arm m) → row_scoped brings opened scope arms ≡ true → EachArm brings CallFits opened scope arms → ArmsKeep opened scope arms
+    pub row_fits : {m : _} (opened : List Name) (scope : List Entry) (arms : Row_of-Arm m) → row_scoped brings opened scope arms ≡ true → EachArm brings CallFits opened scope arms → ArmsKeep opened scope arms
     row_fits opened scope end_of-Arm ok fit = λ s t f h e. absurd e
     row_fits opened scope (more_of-Arm g c rest) ok fit =
         let both = right_true _ _ ok in

@@ -56,17 +56,18 @@ module _ (scope : List Entry) (s : State) (fits : FitsMap scope s.own) where
   pub set_fits : (names : List Name) (terms : List Term) → length names ≡ length terms → each_set scope names terms ≡ true → FitsMap scope (put_all names (values terms s) s.own)
   set_fits [] terms long e = fits
   set_fits (x ∷ names) [] long e = absurd (cc)
-  set_fits (x ∷ names) (t ∷ terms) long e = λ y. at y (bytes_eq y x) refl
+  set_fits (x ∷ names) (t ∷ terms) long e = λ y. at y (bytes_eq y x) refl (set_fits names terms (shorter (length names) (length terms) long) (right_true _ _ e) y)
     where
-      rest : FitsMap scope (put_all names (values terms s) s.own)
-      rest = set_fits names terms (let q : length names ≡ length terms = cc in q) (right_true _ _ e)
+      shorter : (a b : ℕ) → suc a ≡ suc b → a ≡ b
+      shorter a b q = cc
 
       here : FitsEntry (find (has_name x) scope) (Some (value s.own s.own [] t))
       here = variable_takes (find (has_name x) scope) (sort_in scope [] t) _ (valued t) (left_true _ _ e)
 
-      at : (y : Name) (b : Bool) → bytes_eq y x ≡ b → FitsEntry (find (has_name y) scope) (put x (Some (value s.own s.own [] t)) (put_all names (values terms s) s.own) y)
-      at y true i = rw i (subst (λ z. FitsEntry (find (has_name z) scope) (Some (value s.own s.own [] t))) (sym (same_bytes y x i)) here)
-      at y false i = rw i (rest y)
+      at : (y : Name) (b : Bool) → bytes_eq y x ≡ b → FitsEntry (find (has_name y) scope) (put_all names (values terms s) s.own y)
+          → FitsEntry (find (has_name y) scope) (put x (Some (value s.own s.own [] t)) (put_all names (values terms s) s.own) y)
+      at y true i rest = rw i (subst (λ z. FitsEntry (find (has_name z) scope) (Some (value s.own s.own [] t))) (sym (same_bytes y x i)) here)
+      at y false i rest = rw i rest
 
   pub assigned_fits : (names : List Name) (terms : List Term) → are_set scope names terms ≡ true → FitsMap scope (put_all names (values terms s) s.own)
   assigned_fits names terms e = set_fits names terms (eqb-true _ _ (left_true _ _ e)) (right_true _ _ e)

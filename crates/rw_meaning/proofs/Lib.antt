@@ -1,6 +1,8 @@
 pub mod CallRows
+pub mod Contexts
 pub mod Ending
 pub mod Entering
+pub mod Fill
 pub mod Grow
 pub mod Modules
 pub mod Options

@@ -21,12 +21,13 @@ entries_named (p ∷ ps) = ap (λ l. p.name ∷ l) (entries_named ps)
 -- nothing is found under a name that is none of the module's
 unfound : (ps : List Param) (x : Name) → is_in x (names_of ps) ≡ false → find (has_name x) (module_entries ps) ≡ None
 unfound [] x h = refl
-unfound (p ∷ ps) x h = go (bytes_eq x p.name) refl (bytes_eq p.name x) refl h
+unfound (p ∷ ps) x h = go (bytes_eq x p.name) refl (bytes_eq p.name x) refl h (unfound ps x)
   where
-    go : (a : Bool) → bytes_eq x p.name ≡ a → (b : Bool) → bytes_eq p.name x ≡ b → (a || is_in x (names_of ps)) ≡ false → find (has_name x) (module_entries (p ∷ ps)) ≡ None
-    go true i b j h = absurd (true≢false h)
-    go false i true j h = absurd (true≢false (sym (bytes_same x p.name (sym (same_bytes p.name x j))) ∙ i))
-    go false i false j h = rw j (unfound ps x h)
+    go : (a : Bool) → bytes_eq x p.name ≡ a → (b : Bool) → bytes_eq p.name x ≡ b → (a || is_in x (names_of ps)) ≡ false
+        → (is_in x (names_of ps) ≡ false → find (has_name x) (module_entries ps) ≡ None) → find (has_name x) (module_entries (p ∷ ps)) ≡ None
+    go true i b j h ih = absurd (true≢false h)
+    go false i true j h ih = absurd (true≢false (sym (bytes_same x p.name (sym (same_bytes p.name x j))) ∙ i))
+    go false i false j h ih = rw j (ih h)
 
 -- a map that fits the module's state does so on its names alone
 only_fits : (ps : List Param) (m : Map) → FitsMap (module_entries ps) m → FitsMap (module_entries ps) (only (names_of ps) m)
@@ -106,11 +107,11 @@ module _ (scope inner : List Entry) (d : ModCode) (takes : with_entries scope (m
 -- a module has the name by which it is found
 find_named : (m : Name) (modules : List ModCode) (d : ModCode) → find_module m modules ≡ Some d → bytes_eq d.name m ≡ true
 find_named m [] d e = absurd (cc)
-find_named m (a ∷ modules) d e = go (bytes_eq a.name m) refl
+find_named m (a ∷ modules) d e = go (bytes_eq a.name m) refl e (find_named m modules d)
   where
-    go : (b : Bool) → bytes_eq a.name m ≡ b → bytes_eq d.name m ≡ true
-    go true h = let q : Some a ≡ Some d = (rw h at e) in let r : a ≡ d = cc in subst (λ x. bytes_eq x.name m ≡ true) r h
-    go false h = find_named m modules d (rw h at e)
+    go : (b : Bool) → bytes_eq a.name m ≡ b → (if b then Some a else find_module m modules) ≡ Some d → (find_module m modules ≡ Some d → bytes_eq d.name m ≡ true) → bytes_eq d.name m ≡ true
+    go true h e ih = let r : a ≡ d = cc in subst (λ x. bytes_eq x.name m ≡ true) r h
+    go false h e ih = ih e
 
 module _ (E : Table) (opened outside : List Name) (scope inner : List Entry) (m : Name) (d : ModCode) (found : find_module m E.modules ≡ Some d)
     (opens : with_module opened m ≡ Some outside) (takes : with_entries scope (brought E.is_concrete (find_module m E.modules)) ≡ Some inner) where

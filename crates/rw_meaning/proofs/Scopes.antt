@@ -128,11 +128,11 @@ put_all_on (y ∷ ys) vs m n x h = go (bytes_eq x y) refl h vs (λ vs h. put_all
 -- names to which nothing is put have nothing
 pub put_none : (xs : List Name) (m : Map) (x : Name) → is_in x xs ≡ true → put_all xs [] m x ≡ None
 put_none [] m x h = absurd (true≢false (sym h))
-put_none (y ∷ ys) m x h = go (bytes_eq x y) refl h
+put_none (y ∷ ys) m x h = go (bytes_eq x y) refl h (put_none ys m x)
   where
-    go : (b : Bool) → bytes_eq x y ≡ b → (b || is_in x ys) ≡ true → put_all (y ∷ ys) [] m x ≡ None
-    go true e h = rw e
-    go false e h = rw e (put_none ys m x h)
+    go : (b : Bool) → bytes_eq x y ≡ b → (b || is_in x ys) ≡ true → (is_in x ys ≡ true → put_all ys [] m x ≡ None) → put_all (y ∷ ys) [] m x ≡ None
+    go true e h ih = rw e
+    go false e h ih = rw e (ih h)
 
 -- values put for new names, beside a map that fits
 pub put_fits : (scope es inner : List Entry) → with_entries scope es ≡ Some inner → (m : Map) (vs : List (Option Value)) → FitsMap scope m
