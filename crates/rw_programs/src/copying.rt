@@ -56,7 +56,11 @@ impl Prog {
                 let arms = copy_arms(alloc, arms.as_slice())?;
                 Ok(Prog::Do(variant.into_inner(), arms))
             }
-            Prog::Block(name, sort, body) => Ok(Prog::Block(name.copy(), *sort, again(alloc, body)?)),
+            Prog::Block(name, sort, body) => Ok(Prog::Block(
+                name.copy(),
+                *sort,
+                again(alloc, body)?,
+            )),
             Prog::Con(pins, body) => Ok(Prog::Con(
                 copy_pins(alloc, pins.as_slice())?,
                 again(alloc, body)?,

@@ -8,3 +8,5 @@ pub mod laws;
 pub mod prog;
 pub mod scoped;
 pub mod sorted;
+#[cfg(test)]
+mod tests;

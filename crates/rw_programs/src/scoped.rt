@@ -27,12 +27,7 @@ pub fn well_scoped(alloc: Global, context: &Context, prog: &Prog) -> Result<bool
 
 #[cycle(is_scoped)]
 #[tactic(auto, using(crate::proofs::ScopedParts::seq_scoped, crate::proofs::ScopedParts::if_scoped, crate::proofs::ScopedParts::do_scoped, crate::proofs::ScopedParts::block_scoped, crate::proofs::ScopedParts::con_scoped, crate::proofs::ScopedParts::module_scoped))]
-fn is_scoped(
-    alloc: Global,
-    opened: &[Name],
-    scope: &Scope,
-    prog: &Prog,
-) -> Result<bool, AllocError>
+fn is_scoped(alloc: Global, opened: &[Name], scope: &Scope, prog: &Prog) -> Result<bool, AllocError>
     ensures { IfOk result (λ scoped. scoped ≡ is_scoped opened.now scope.now prog.now) }
 {
     match prog {
@@ -60,9 +55,7 @@ fn is_scoped(
             Some(inner) => is_scoped(alloc, opened, &inner, body.get()),
             None => Ok(false),
         },
-        Prog::Call(_, args, results) => Ok(
-            call_scoped(scope, args.as_slice(), results.as_slice()),
-        ),
+        Prog::Call(_, args, results) => Ok(call_scoped(scope, args.as_slice(), results.as_slice())),
         Prog::OpCall(home, _, args, results) => {
             Ok(is_in(home, opened) && call_scoped(scope, args.as_slice(), results.as_slice()))
         }

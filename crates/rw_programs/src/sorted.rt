@@ -132,7 +132,10 @@ pub fn is_sorted(
 {
     match formula {
         Formula::True | Formula::False => Ok(true),
-        Formula::Eq(t, u) => Ok(may_equal_of(sort_in(scope, binders, t), sort_in(scope, binders, u))),
+        Formula::Eq(t, u) => Ok(may_equal_of(
+            sort_in(scope, binders, t),
+            sort_in(scope, binders, u),
+        )),
         Formula::Less(t, u) | Formula::AtMost(t, u) => {
             Ok(of_ints(sort_in(scope, binders, t), sort_in(scope, binders, u)).is_some())
         }
