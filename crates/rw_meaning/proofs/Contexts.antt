@@ -1,6 +1,6 @@
 -- Contexts in which no module is opened.
 use mathlib.Core.Path.{fun_ext}
-use Rattle.std.proofs.Common.{◌≡◌, sym, ap, Bool, true, false, List, [], ◌↔◌}
+use Rattle.std.proofs.Common.{◌≡◌, ap, Bool, true, false, List, [], ◌↔◌}
 use Rattle.rw_terms.specs.declared.scope.Entry.{Entry}
 use Rattle.rw_terms.specs.State.{State as Map}
 use Rattle.rw_programs.specs.declared.prog.ModCode.{ModCode}

@@ -1,19 +1,17 @@
 -- A program that is well scoped, and whose calls end in states that fit, ends in states that fit.
-use Rattle.std.proofs.Common.{◌≡◌, refl, sym, ap, ◌∙◌, subst, ℕ, zero, suc, Bool, true, false, ◌&&◌, List, [], ◌∷◌, Option, Some, None, inl, inr, true≢false, IsSomeAnd}
+use Rattle.std.proofs.Common.{◌≡◌, refl, sym, subst, ℕ, zero, suc, Bool, true, List, Option, Some, None, inl, inr, true≢false}
 use Rattle.rw_terms.specs.declared.scope.Entry.{Entry}
-use Rattle.rw_terms.specs.declared.term.Term.{Term}
 use Rattle.rw_terms.specs.declared.term.Formula.{Formula}
-use Rattle.rw_terms.specs.State.{Value, HasSort}
 use Rattle.rw_programs.specs.declared.prog.ModCode.{ModCode}
 use Rattle.rw_programs.specs.declared.prog.Spec.{Spec as Promise}
 use Rattle.rw_programs.specs.declared.prog.Prog.{Prog, Spec, Kid, Skip, Assign, If', Do', Call, OpCall, Row_of-Arm, end_of-Arm, more_of-Arm}
 use Rattle.rw_programs.specs.Made.{Seq, Block, Con, ModBlock}
-use Rattle.rw_programs.specs.State.{Name, State, Fits, Within, empty, alone, with_own, put, put_all, names_of, ValuesFor}
+use Rattle.rw_programs.specs.State.{Name, State, Fits, empty, alone, with_own, put, put_all}
 use Rattle.rw_programs.specs.Tables.{Table, find_module, pin_names, pin_terms, hold}
-use Rattle.rw_programs.specs.Meaning.{Bodies, ends_by, sure_by, arm_ends, arms_sure, GuardsDefined, Chain, values}
+use Rattle.rw_programs.specs.Meaning.{Bodies, arm_ends, arms_sure, GuardsDefined, Chain, values}
 use Rattle.rw_programs.specs.Scoped.{with_local, with_pins, with_entries, with_module, if_some, prog_scoped, row_scoped}
 use Rattle.rw_programs.proofs.Frames.{within_fits}
-use Rattle.rw_meaning.specs.Filling.{WhereSome, PartsFit, FitsIn, EachPart, EachArm, KeepsBy, StartFits, CallFitsBy, brings_of}
+use Rattle.rw_meaning.specs.Filling.{WhereSome, PartsFit, FitsIn, EachPart, EachArm, KeepsBy, CallFitsBy, brings_of}
 use Rattle.rw_meaning.proofs.Options.{some_use₂}
 use Rattle.rw_meaning.proofs.Tests.{left_true, right_true}
 use Rattle.rw_meaning.proofs.Entering.{assigned_fits, local_fits, local_gone, pins_fit, pins_gone}
@@ -73,9 +71,12 @@ module _ (E : Table) (calls before : Bodies) (brings : Name → List Entry) wher
   module_keeps opened outside scope inner m c opens takes fit keeps s t f sure e =
       let taken : with_entries scope (brings_of E m) ≡ Some inner = subst (λ es. with_entries scope es ≡ Some inner) fit.0 takes in
       some_use₂ (find_module m E.modules) _ _ _ (λ d found hs y. let st = hs y.0 y.3 in
-          let into = module_enters E opened outside scope inner m d found opens taken s y.1.own f (fit.1 d found y.0 y.3 st.0 y.1 y.4) in
-          let b = keeps _ y.2 into (st.1 y.1 y.4) y.5 in
-          subst (Fit opened scope) (sym y.6) (module_leaves E opened outside scope inner m d found opens taken y.2 b)) sure e
+      let into = module_enters E opened outside scope inner m d found opens taken s y.1.own f (fit.1 d found y.0 y.3 st.0 y.1 y.4) in
+      let b = keeps (hold E.is_concrete d y.1.own s) y.2 into (st.1 y.1 y.4) y.5 in
+      behind d y.2 t y.6 (module_leaves E opened outside scope inner m d found opens taken y.2 b)) sure e
+    where
+      behind : (d : ModCode) (a t : State) → t ≡ hold E.is_concrete d empty a → Fit opened scope (hold E.is_concrete d empty a) → Fit opened scope t
+      behind d a t e f = subst (Fit opened scope) (sym e) f
 
   arm_keeps : {m : _} (opened : List Name) (scope : List Entry) (g : Formula) (c : Prog) (rest : Row_of-Arm m) → Keeps opened scope c → ArmsKeep opened scope rest → ArmsKeep opened scope (more_of-Arm g c rest)
   arm_keeps opened scope g c rest kc kr s t f h (inl e) = kc s t f (h.0 e.0) e.1

@@ -1,5 +1,5 @@
 -- What a program does to states that fit: assignments, locals and constants keep to the scope.
-use Rattle.std.proofs.Common.{◌≡◌, refl, sym, ap, ◌∙◌, subst, ℕ, suc, Bool, true, false, ◌&&◌, List, [], ◌∷◌, map, find, length, Option, Some, None, true≢false}
+use Rattle.std.proofs.Common.{◌≡◌, refl, sym, ap, ◌∙◌, subst, ℕ, suc, Bool, true, false, List, [], ◌∷◌, map, find, length, Option, Some, None, true≢false}
 use Rattle.std.proofs.lemmas.Bool.{eqb-true}
 use Rattle.std.specs.Prelude.{bytes_eq, option_and_then, if◌then◌else◌}
 use Rattle.rw_terms.specs.declared.scope.Entry.{Entry}
@@ -11,16 +11,16 @@ use Rattle.rw_terms.specs.declared.term.Term.{Term}
 use Rattle.rw_terms.specs.Scopes.{has_name}
 use Rattle.rw_terms.specs.State.{Value, HasSort, FitsEntry, State as Map, Fits as FitsMap}
 use Rattle.rw_terms.specs.Value.{value}
-use Rattle.rw_terms.specs.Sorts.{as_variable, variable_sort}
+use Rattle.rw_terms.specs.Sorts.{as_variable}
 use Rattle.rw_terms.specs.Formed.{same_sort, is_sort}
 use Rattle.rw_terms.specs.Rules.{sort_in, is_of, may_equal_of}
 use Rattle.rw_terms.proofs.Typed.{sort_law}
 use Rattle.rw_programs.specs.declared.prog.Pin.{Pin}
-use Rattle.rw_programs.specs.State.{Name, State, empty, is_in, put, put_all}
+use Rattle.rw_programs.specs.State.{Name, State, empty, put, put_all}
 use Rattle.rw_programs.specs.Tables.{pin_names, pin_terms}
 use Rattle.rw_programs.specs.Meaning.{values}
 use Rattle.rw_programs.specs.Scoped.{each_set, are_set, with_entry, with_entries, with_local, with_pin, with_pins}
-use Rattle.rw_meaning.proofs.Tests.{left_true, right_true, same_bytes, bytes_same, and_then_is, if_is}
+use Rattle.rw_meaning.proofs.Tests.{left_true, right_true, same_bytes, bytes_same, and_then_is}
 use Rattle.rw_meaning.proofs.Scopes.{put_fits, taken_fits}
 
 same_sort_is : (a b : Sort) → same_sort a b ≡ true → a ≡ b

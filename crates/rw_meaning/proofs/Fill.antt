@@ -1,13 +1,12 @@
 -- A filled skeleton is better where what is put for its kids is.
-use Rattle.std.proofs.Common.{◌≡◌, ◌≤◌, refl, sym, subst, ℕ, zero, suc, Bool, true, ◌&&◌, List, Option, Some, None, inl, inr}
+use Rattle.std.proofs.Common.{◌≡◌, ◌≤◌, subst, ℕ, zero, suc, true, List, Some, inl, inr}
 use Rattle.rw_terms.specs.declared.scope.Entry.{Entry}
 use Rattle.rw_terms.specs.declared.term.Formula.{Formula}
-use Rattle.rw_programs.specs.declared.prog.ModCode.{ModCode}
 use Rattle.rw_programs.specs.declared.prog.Prog.{Prog, Spec, Kid, Skip, Assign, If', Do', Call, OpCall, Row_of-Arm, end_of-Arm, more_of-Arm}
 use Rattle.rw_programs.specs.Made.{Seq, Block, Con, ModBlock}
-use Rattle.rw_programs.specs.State.{Name, State, empty, with_own, put, put_all}
-use Rattle.rw_programs.specs.Tables.{Table, find_module, pin_names, pin_terms, hold}
-use Rattle.rw_programs.specs.Meaning.{Bodies, ends_by, sure_by, arm_ends, arms_sure, NoGuard, GuardsDefined, Chain, values}
+use Rattle.rw_programs.specs.State.{Name, State}
+use Rattle.rw_programs.specs.Tables.{Table, find_module}
+use Rattle.rw_programs.specs.Meaning.{Bodies, ends_by, sure_by, arm_ends, arms_sure, NoGuard, GuardsDefined, Chain}
 use Rattle.rw_programs.specs.Scoped.{with_local, with_pins, with_entries, with_module, if_some, prog_scoped, row_scoped}
 use Rattle.rw_meaning.specs.Filling.{fill, fill_row, WhereSome, FitsIn, EachPart, EachArm, KeepsBy, CallFitsBy, BetterBy, KidBetterBy, brings_of}
 use Rattle.rw_meaning.proofs.Options.{some_map, some_map₂}

@@ -1,13 +1,13 @@
 -- States in and behind the block of a module.
 use mathlib.Core.Path.{fun_ext}
-use Rattle.std.proofs.Common.{◌≡◌, refl, sym, ap, ◌∙◌, subst, ℕ, Bool, true, false, ◌&&◌, ◌||◌, List, [], ◌∷◌, map, find, Option, Some, None, true≢false}
+use Rattle.std.proofs.Common.{◌≡◌, refl, sym, ap, ◌∙◌, subst, Bool, true, false, ◌||◌, List, [], ◌∷◌, map, find, Some, None, true≢false}
 use Rattle.std.specs.Prelude.{bytes_eq, if◌then◌else◌}
 use Rattle.rw_terms.specs.declared.scope.Entry.{Entry}
 use Rattle.rw_terms.specs.Scopes.{has_name}
 use Rattle.rw_terms.specs.State.{FitsEntry, State as Map, Fits as FitsMap}
 use Rattle.rw_programs.specs.declared.prog.Param.{Param}
 use Rattle.rw_programs.specs.declared.prog.ModCode.{ModCode}
-use Rattle.rw_programs.specs.State.{Name, State, empty, no_parts, is_in, only, names_of}
+use Rattle.rw_programs.specs.State.{Name, State, empty, is_in, only, names_of}
 use Rattle.rw_programs.specs.Tables.{Table, find_module, hold}
 use Rattle.rw_programs.specs.Scoped.{with_entries, with_module}
 use Rattle.rw_meaning.specs.Filling.{module_entries, brought, PartFits, PartsFit, FitsIn}

@@ -1,10 +1,10 @@
 -- Scopes with more names, and the states that fit them.
-use Rattle.std.proofs.Common.{◌≡◌, refl, sym, ap, ◌∙◌, subst, ℕ, suc, Bool, true, false, ◌&&◌, ◌||◌, List, [], ◌∷◌, ◌++◌, map, find, Option, Some, None, true≢false}
-use Rattle.std.specs.Prelude.{bytes_eq, option_and_then, if◌then◌else◌}
+use Rattle.std.proofs.Common.{◌≡◌, refl, sym, ap, ◌∙◌, subst, Bool, true, false, ◌||◌, List, [], ◌∷◌, ◌++◌, map, find, Option, Some, None, true≢false}
+use Rattle.std.specs.Prelude.{bytes_eq}
 use Rattle.rw_terms.specs.declared.scope.Entry.{Entry}
 use Rattle.rw_terms.specs.Scopes.{has_name, is_fresh}
 use Rattle.rw_terms.specs.State.{Value, FitsEntry, State as Map, Fits as FitsMap}
-use Rattle.rw_programs.specs.State.{Name, empty, is_in, put, put_all}
+use Rattle.rw_programs.specs.State.{Name, empty, is_in, put_all}
 use Rattle.rw_programs.specs.Scoped.{with_entry, with_entries}
 use Rattle.rw_programs.proofs.Frames.{put_all_off}
 use Rattle.rw_meaning.proofs.Tests.{same_bytes, bytes_same, other_bytes, and_then_is, if_is, fresh_is}

@@ -1,5 +1,5 @@
 -- Tests that hold, and options that are there.
-use Rattle.std.proofs.Common.{◌≡◌, refl, sym, ap, ◌∙◌, subst, ℕ, Bool, true, false, ◌&&◌, List, [], ◌∷◌, ◌++◌, find, Option, Some, None, true≢false, Decides}
+use Rattle.std.proofs.Common.{◌≡◌, refl, sym, ◌∙◌, ℕ, Bool, true, false, ◌&&◌, List, find, Option, Some, None, true≢false}
 use Rattle.std.specs.Prelude.{bytes_eq, option_and_then, not, is_some, if◌then◌else◌}
 use Rattle.std.proofs.lemmas.Slice.Eq.{bytes_eq-Decides}
 use Rattle.rw_terms.specs.declared.scope.Entry.{Entry}

@@ -1,5 +1,5 @@
 -- Programs put in the place of kids, and what is asked of the places of a program.
-use Rattle.std.specs.Prelude.{◌≡◌, ℕ, Bool, true, false, List, [], ◌∷◌, map, Option, Some, None}
+use Rattle.std.specs.Prelude.{◌≡◌, ℕ, Bool, true, false, List, [], map, Option, Some, None}
 use Rattle.rw_terms.specs.declared.scope.Entry.{Entry}
 use Rattle.rw_terms.specs.declared.scope.Kind.TheVariants as kind
 use Rattle.rw_terms.specs.State.{Value, State as Map, Fits as FitsMap}
@@ -105,15 +105,7 @@ module _ (E : Table) (calls before : Bodies) where
   CallFitsBy brings opened scope (Call f args names) = KeepsBy opened scope (Call f args names)
   CallFitsBy brings opened scope (OpCall m o args names) = KeepsBy opened scope (OpCall m o args names)
   CallFitsBy brings opened scope (ModBlock m c) = (brings m ≡ brings_of E m) × StartFits m
-  CallFitsBy brings opened scope (Spec w) = Unit {0}
-  CallFitsBy brings opened scope (Kid n) = Unit {0}
-  CallFitsBy brings opened scope Skip = Unit {0}
-  CallFitsBy brings opened scope (Assign names terms) = Unit {0}
-  CallFitsBy brings opened scope (Seq c d) = Unit {0}
-  CallFitsBy brings opened scope (If' shape arms) = Unit {0}
-  CallFitsBy brings opened scope (Do' variant shape arms) = Unit {0}
-  CallFitsBy brings opened scope (Block x sort c) = Unit {0}
-  CallFitsBy brings opened scope (Con pins c) = Unit {0}
+  CallFitsBy brings opened scope _ = Unit {0}
 
   -- d is sure where c is, and its ends are ends of c
   abbrev pub BetterBy : Prog → Prog → State → Type 0
@@ -122,17 +114,7 @@ module _ (E : Table) (calls before : Bodies) where
   -- what is put for a kid is better than what was, in the states that fit there
   abbrev pub KidBetterBy : (ks js : ℕ → Prog) → List Name → List Entry → Prog → Type 0
   KidBetterBy ks js opened scope (Kid n) = (s : State) → FitsIn E opened scope s → BetterBy (ks n) (js n) s
-  KidBetterBy ks js opened scope (Spec w) = Unit {0}
-  KidBetterBy ks js opened scope Skip = Unit {0}
-  KidBetterBy ks js opened scope (Assign names terms) = Unit {0}
-  KidBetterBy ks js opened scope (Seq c d) = Unit {0}
-  KidBetterBy ks js opened scope (If' shape arms) = Unit {0}
-  KidBetterBy ks js opened scope (Do' variant shape arms) = Unit {0}
-  KidBetterBy ks js opened scope (Block x sort c) = Unit {0}
-  KidBetterBy ks js opened scope (Con pins c) = Unit {0}
-  KidBetterBy ks js opened scope (Call f args names) = Unit {0}
-  KidBetterBy ks js opened scope (OpCall m o args names) = Unit {0}
-  KidBetterBy ks js opened scope (ModBlock m c) = Unit {0}
+  KidBetterBy ks js opened scope _ = Unit {0}
 
 -- the calls in the program, where sure, end in states that fit, and so do the starts of the modules that it opens
 abbrev pub CallsFit : (brings : Name → List Entry) → Table → (p k : ℕ) → List Name → List Entry → Prog → Type 0
