@@ -9,6 +9,7 @@ use Rattle.rw_programs.specs.Meaning.{MayEnd, Sure}
 abbrev pub EarlierEnds : Table → (p q : ℕ) → Prog → State → State → Type 0
 EarlierEnds E p q c s t = (q < p) × ((j : ℕ) × MayEnd E q j c s t)
 
+-- the body c at place q, before p, is sure from s: at its own place, with some number of levels
 abbrev pub EarlierSure : Table → (p q : ℕ) → Prog → State → Type 0
 EarlierSure E p q c s = (q < p) × ((j : ℕ) × Sure E q j c s)
 
@@ -17,5 +18,6 @@ EarlierSure E p q c s = (q < p) × ((j : ℕ) × Sure E q j c s)
 abbrev pub CallEnds : Table → (p k q : ℕ) → Prog → State → State → Type 0
 CallEnds E p k q c s t = ((q ≡ p) × ((j : ℕ) × (k ≡ suc j) × MayEnd E p j c s t)) ⊎ EarlierEnds E p q c s t
 
+-- so, the body is sure from s
 abbrev pub CallSure : Table → (p k q : ℕ) → Prog → State → Type 0
 CallSure E p k q c s = ((q ≡ p) × ((j : ℕ) × (k ≡ suc j) × Sure E p j c s)) ⊎ EarlierSure E p q c s

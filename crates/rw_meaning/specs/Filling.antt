@@ -28,6 +28,7 @@ abbrev mutual
   fill ks (OpCall m o args names) = OpCall m o args names
   fill ks (ModBlock m c) = ModBlock m (fill ks c)
 
+  -- the same of the programs behind guards
   pub fill_row : {m : _} → (ℕ → Prog) → Row_of-Arm m → Row_of-Arm m
   fill_row ks end_of-Arm = end_of-Arm
   fill_row ks (more_of-Arm g c rest) = more_of-Arm g (fill ks c) (fill_row ks rest)
@@ -41,6 +42,7 @@ WhereSome (Some a) P = P a
 abbrev pub module_entries : List Param → List Entry
 module_entries ps = map (λ p. record { name = p.name; sort = p.sort; kind = kind.Module }) ps
 
+-- the names that a block brings, by the module that is found
 abbrev pub brought : Bool → Option ModCode → List Entry
 brought true o = []
 brought false None = []
@@ -56,6 +58,7 @@ PartFits false o part = part ≡ empty
 PartFits true None part = part ≡ empty
 PartFits true (Some d) part = FitsMap (module_entries d.state) part
 
+-- the parts of a state fit the opened modules; under an abstract table there are none
 abbrev pub PartsFit : Bool → List ModCode → List Name → (Name → Map) → Type 0
 PartsFit false modules opened parts = parts ≡ no_parts
 PartsFit true modules opened parts = (m : Name) → PartFits (is_in m opened) (find_module m modules) (parts m)
@@ -84,6 +87,7 @@ module _ (brings : Name → List Entry) (Q : List Name → List Entry → Prog �
         Q opened scope (ModBlock m c)
         × WhereSome (with_module opened m) (λ outside. WhereSome (with_entries scope (brings m)) (λ inner. EachPart outside inner c))
 
+    -- so does each part of the programs behind guards
     pub EachArm : {m : _} → List Name → List Entry → Row_of-Arm m → Type 0
     EachArm opened scope end_of-Arm = Unit {0}
     EachArm opened scope (more_of-Arm g c rest) = EachPart opened scope c × EachArm opened scope rest

@@ -15,6 +15,7 @@ abbrev pub all_of : List Bool → Bool
 all_of [] = true
 all_of (b ∷ bs) = b && all_of bs
 
+-- one layer of a term, from what its parts are
 abbrev pub plain_step : Term-F Bool → Bool
 plain_step (Term-F.Lit _) = true
 plain_step (Term-F.Var _) = true
@@ -35,9 +36,11 @@ plain_step (Term-F.Fun _ args) = all_of args
 abbrev pub is_plain : Term → Bool
 is_plain = fold-Term Bool plain_step
 
+-- so in each of the terms
 abbrev pub are_plain : List Term → Bool
 are_plain ts = all_of (map is_plain ts)
 
+-- one layer of a guard, from what its parts are
 abbrev pub guard_step : Formula-F Bool → Bool
 guard_step Formula-F.True = true
 guard_step Formula-F.False = true
@@ -72,6 +75,7 @@ abbrev mutual
   is_code (OpCall m o args names) = are_plain args
   is_code (ModBlock m c) = is_code c
 
+  -- the same of guards and the programs behind them
   pub are_code : {m : _} → Row_of-Arm m → Bool
   are_code end_of-Arm = true
   are_code (more_of-Arm g c rest) = is_guard g && (is_code c && are_code rest)

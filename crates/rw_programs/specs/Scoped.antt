@@ -71,6 +71,7 @@ abbrev pub with_entries : List Entry → List Entry → Option (List Entry)
 with_entries scope [] = Some scope
 with_entries scope (e ∷ es) = option_and_then (λ inner. with_entries inner es) (with_entry scope e)
 
+-- the scope with a local, which has a sort and is new
 abbrev pub with_local : List Entry → Name → Sort → Option (List Entry)
 with_local scope x sort = if is_sort sort then with_entry scope (record { name = x; sort = sort; kind = kind.Local }) else None
 
@@ -78,6 +79,7 @@ with_local scope x sort = if is_sort sort then with_entry scope (record { name =
 abbrev pub with_pin : (outer scope : List Entry) → Pin → Option (List Entry)
 with_pin outer scope p = option_and_then (λ sort. with_entry scope (record { name = p.name; sort = sort; kind = kind.Constant })) (sort_in outer [] p.term)
 
+-- the scope with constants, one after another
 abbrev pub with_pins : (outer scope : List Entry) → List Pin → Option (List Entry)
 with_pins outer scope [] = Some scope
 with_pins outer scope (p ∷ pins) = option_and_then (λ inner. with_pins outer inner pins) (with_pin outer scope p)
@@ -98,6 +100,7 @@ call_scoped scope args results = are_sorted scope [] args && are_variables scope
 -- `brings` says which names the block of a module brings into scope.
 module _ (brings : Name → List Entry) where
   abbrev mutual
+    -- each name is in scope with its sort, where these modules are opened
     pub prog_scoped : List Name → List Entry → Prog → Bool
     prog_scoped opened scope (prog.Spec w) = spec_scoped scope w
     prog_scoped opened scope (Kid n) = true
@@ -113,6 +116,7 @@ module _ (brings : Name → List Entry) where
     prog_scoped opened scope (ModBlock m c) =
         if_some (λ outside. if_some (λ inner. prog_scoped outside inner c) (with_entries scope (brings m))) (with_module opened m)
 
+    -- the same of guards and the programs behind them
     pub row_scoped : {m : _} → List Name → List Entry → Row_of-Arm m → Bool
     row_scoped opened scope end_of-Arm = true
     row_scoped opened scope (more_of-Arm g c rest) = is_sorted scope g [] && (prog_scoped opened scope c && row_scoped opened scope rest)
