@@ -1,3 +1,5 @@
+pub mod Coded
 pub mod Frames
 pub mod Rules
+pub mod ScopedParts
 pub mod Skipping

@@ -4,3 +4,5 @@ pub mod Tables
 pub mod Meaning
 pub mod Refine
 pub mod Laws
+pub mod CodeTest
+pub mod Scoped

@@ -2,6 +2,11 @@
 #![tactic(auto)]
 
 pub mod applied;
+pub mod code;
 pub mod copying;
 pub mod laws;
 pub mod prog;
+pub mod scoped;
+pub mod sorted;
+#[cfg(test)]
+mod tests;

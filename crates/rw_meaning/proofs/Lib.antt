@@ -1,0 +1,10 @@
+pub mod CallRows
+pub mod Contexts
+pub mod Ending
+pub mod Entering
+pub mod Fill
+pub mod Grow
+pub mod Modules
+pub mod Options
+pub mod Scopes
+pub mod Tests

@@ -1,0 +1,505 @@
+//! Tables of cases, worked out by hand.
+
+use crate::applied::{Applied, Child, Context};
+use crate::code::is_code;
+use crate::prog::{Arm, Code, ModCode, Param, Pin, ProcCode, Prog, Spec};
+use crate::scoped::well_scoped;
+use rw_items::{Boxed, Items};
+use rw_terms::name::Name;
+use rw_terms::scope::{Entry, Kind, Scope};
+use rw_terms::term::{Formula, Sort, Term};
+use std::alloc::Global;
+use std::process::Abort;
+use std::test::Fail;
+
+// Programs as they are built from words that stand behind their parts, as `x 1 + set-x`.
+#[derive(Drop)]
+struct Stack {
+    alloc: Global,
+    terms: Vec<Boxed<Term>>,
+    formulas: Vec<Boxed<Formula>>,
+    progs: Vec<Boxed<Prog>>,
+}
+
+fn name(word: &str) -> Result<Name, Fail> {
+    Ok(Name::read(word.as_bytes())?)
+}
+
+fn one_name(alloc: Global, word: &str) -> Result<Items<Name>, Fail> {
+    let mut names = Items::new(alloc);
+    names.push(name(word)?)?;
+    Ok(names)
+}
+
+fn one_term(alloc: Global, term: Boxed<Term>) -> Result<Items<Term>, Fail> {
+    let mut terms = Items::new(alloc);
+    terms.push(term.into_inner())?;
+    Ok(terms)
+}
+
+fn one_arm(alloc: Global, guard: Boxed<Formula>, body: Boxed<Prog>) -> Result<Items<Arm>, Fail> {
+    let mut arms = Items::new(alloc);
+    arms.push(Arm {
+        guard: guard.into_inner(),
+        body: body.into_inner(),
+    })?;
+    Ok(arms)
+}
+
+fn one_pin(alloc: Global, word: &str, term: Boxed<Term>) -> Result<Items<Pin>, Fail> {
+    let name = name(word)?;
+    let mut pins = Items::new(alloc);
+    pins.push(Pin {
+        name,
+        term: term.into_inner(),
+    })?;
+    Ok(pins)
+}
+
+impl Stack {
+    fn new(alloc: Global) -> Stack {
+        Stack {
+            alloc,
+            terms: Vec::new(alloc),
+            formulas: Vec::new(alloc),
+            progs: Vec::new(alloc),
+        }
+    }
+
+    fn term(&mut self) -> Result<Boxed<Term>, Fail> {
+        Ok(self.terms.pop().ok_or("no term")?)
+    }
+
+    fn formula(&mut self) -> Result<Boxed<Formula>, Fail> {
+        Ok(self.formulas.pop().ok_or("no formula")?)
+    }
+
+    fn prog(&mut self) -> Result<Boxed<Prog>, Fail> {
+        Ok(self.progs.pop().ok_or("no program")?)
+    }
+
+    fn push_term(&mut self, term: Term) -> Result<(), Fail> {
+        let term = Boxed::new(self.alloc, term)?;
+        self.terms.push(term)?;
+        Ok(())
+    }
+
+    fn push_formula(&mut self, formula: Formula) -> Result<(), Fail> {
+        let formula = Boxed::new(self.alloc, formula)?;
+        self.formulas.push(formula)?;
+        Ok(())
+    }
+
+    fn push_prog(&mut self, prog: Prog) -> Result<(), Fail> {
+        let prog = Boxed::new(self.alloc, prog)?;
+        self.progs.push(prog)?;
+        Ok(())
+    }
+
+    // A variable, an initial variable as `x'`, a constant with a capital, or a number.
+    fn leaf(&mut self, word: &str) -> Result<(), Fail> {
+        let term = if let Some(x) = word.strip_suffix("'") {
+            Term::Init(name(x)?)
+        } else if word == "K" || word == "D" {
+            Term::Const(name(word)?)
+        } else if word == "x" || word == "y" || word == "a" {
+            Term::Var(name(word)?)
+        } else {
+            Term::Lit(word.parse::<i128>()?)
+        };
+        self.push_term(term)
+    }
+
+    fn add(&mut self) -> Result<(), Fail> {
+        let b = self.term()?;
+        let a = self.term()?;
+        self.push_term(Term::Add(a, b))
+    }
+
+    fn relation(&mut self, word: &str) -> Result<(), Fail> {
+        let u = self.term()?;
+        let t = self.term()?;
+        let formula = match word {
+            "=" => Formula::Eq(t.into_inner(), u.into_inner()),
+            _ => Formula::Less(t.into_inner(), u.into_inner()),
+        };
+        self.push_formula(formula)
+    }
+
+    fn connective(&mut self, word: &str) -> Result<(), Fail> {
+        let f = self.formula()?;
+        let formula = match word {
+            "not" => Formula::Not(f),
+            "all" => Formula::All(Sort::Int, f),
+            _ => Formula::Any(Sort::Int, f),
+        };
+        self.push_formula(formula)
+    }
+
+    fn apply(&mut self) -> Result<(), Fail> {
+        let t = self.term()?;
+        let args = one_term(self.alloc, t)?;
+        self.push_formula(Formula::App(name("P")?, args))
+    }
+
+    // A specification of the frame, with a formula for its postcondition.
+    fn spec(&mut self, frame: &str) -> Result<(), Fail> {
+        let post = self.formula()?;
+        let frame = one_name(self.alloc, frame)?;
+        self.push_prog(Prog::Spec(Spec {
+            frame,
+            pre: Formula::True,
+            post: post.into_inner(),
+        }))
+    }
+
+    fn set(&mut self, x: &str) -> Result<(), Fail> {
+        let t = self.term()?;
+        let names = one_name(self.alloc, x)?;
+        let terms = one_term(self.alloc, t)?;
+        self.push_prog(Prog::Assign(names, terms))
+    }
+
+    fn sequence(&mut self) -> Result<(), Fail> {
+        let d = self.prog()?;
+        let c = self.prog()?;
+        self.push_prog(Prog::Seq(c, d))
+    }
+
+    fn alternation(&mut self) -> Result<(), Fail> {
+        let c = self.prog()?;
+        let g = self.formula()?;
+        let arms = one_arm(self.alloc, g, c)?;
+        self.push_prog(Prog::If(arms))
+    }
+
+    fn iteration(&mut self) -> Result<(), Fail> {
+        let c = self.prog()?;
+        let g = self.formula()?;
+        let v = self.term()?;
+        let arms = one_arm(self.alloc, g, c)?;
+        self.push_prog(Prog::Do(v.into_inner(), arms))
+    }
+
+    fn block(&mut self, x: &str, sort: Sort) -> Result<(), Fail> {
+        let c = self.prog()?;
+        let x = name(x)?;
+        self.push_prog(Prog::Block(x, sort, c))
+    }
+
+    fn constant(&mut self, x: &str) -> Result<(), Fail> {
+        let c = self.prog()?;
+        let t = self.term()?;
+        let pins = one_pin(self.alloc, x, t)?;
+        self.push_prog(Prog::Con(pins, c))
+    }
+
+    fn call(&mut self, x: &str) -> Result<(), Fail> {
+        let t = self.term()?;
+        let args = one_term(self.alloc, t)?;
+        let results = one_name(self.alloc, x)?;
+        let f = name("F")?;
+        self.push_prog(Prog::Call(f, args, results))
+    }
+
+    fn operation(&mut self, module: &str) -> Result<(), Fail> {
+        let t = self.term()?;
+        let args = one_term(self.alloc, t)?;
+        let results = one_name(self.alloc, "x")?;
+        let m = name(module)?;
+        let o = name("o")?;
+        self.push_prog(Prog::OpCall(m, o, args, results))
+    }
+
+    fn open(&mut self, module: &str) -> Result<(), Fail> {
+        let c = self.prog()?;
+        let m = name(module)?;
+        self.push_prog(Prog::ModBlock(m, c))
+    }
+
+    // The words that end in a name.
+    fn named(&mut self, word: &str) -> Result<(), Fail> {
+        if let Some(x) = word.strip_prefix("spec-") {
+            self.spec(x)
+        } else if let Some(x) = word.strip_prefix("set-") {
+            self.set(x)
+        } else if let Some(x) = word.strip_prefix("var-") {
+            self.block(x, Sort::Int)
+        } else if let Some(x) = word.strip_prefix("empty-") {
+            self.block(x, Sort::Array(0))
+        } else if let Some(x) = word.strip_prefix("con-") {
+            self.constant(x)
+        } else if let Some(x) = word.strip_prefix("call-") {
+            self.call(x)
+        } else if let Some(m) = word.strip_prefix("op-") {
+            self.operation(m)
+        } else if let Some(m) = word.strip_prefix("open-") {
+            self.open(m)
+        } else {
+            self.leaf(word)
+        }
+    }
+
+    fn word(&mut self, word: &str) -> Result<(), Fail> {
+        match word {
+            "+" => self.add(),
+            "=" | "<" => self.relation(word),
+            "not" | "all" | "any" => self.connective(word),
+            "P" => self.apply(),
+            "true" => self.push_formula(Formula::True),
+            "kid" => self.push_prog(Prog::Kid(1)),
+            "skip" => self.push_prog(Prog::Skip),
+            ";" => self.sequence(),
+            "if" => self.alternation(),
+            "do" => self.iteration(),
+            _ => self.named(word),
+        }
+    }
+}
+
+fn program(alloc: Global, text: &str) -> Result<Boxed<Prog>, Fail> {
+    let mut stack = Stack::new(alloc);
+    for word in text.split(' ') {
+        stack.word(word)?;
+    }
+    stack.prog()
+}
+
+fn code_case(alloc: Global, text: &str) -> Result<bool, Fail> {
+    let prog = program(alloc, text)?;
+    Ok(is_code(prog.get()))
+}
+
+fn code_is(rt: &impl Abort, alloc: Global, cases: &[(&str, bool)]) -> Result<(), Fail> {
+    for (text, want) in cases {
+        let found = code_case(alloc, text)?;
+        assert_eq!(rt; found, *want, "at {text}");
+    }
+    Ok(())
+}
+
+#[test]
+fn what_is_code(rt: HostRuntime) -> Result<(), Fail> {
+    let cases = [
+        ("skip", true),
+        ("kid", false),
+        ("true spec-x", false),
+        ("x 1 + set-x", true),
+        ("x' set-x", false),
+        ("1 K + set-x", false),
+        ("skip x set-x ;", true),
+        ("kid skip ;", false),
+        ("skip kid ;", false),
+        ("x 0 < skip if", true),
+        ("x 0 < kid if", false),
+        ("x' 0 < skip if", false),
+        ("0 K = not skip if", false),
+        ("x P skip if", false),
+        ("x 0 < all skip if", false),
+        ("x 0 < any not skip if", false),
+        ("x 0 x < skip do", true),
+        ("K 0 x < skip do", false),
+        ("x 0 x' < skip do", false),
+        ("x 0 x < kid do", false),
+        ("skip var-y", true),
+        ("kid var-y", false),
+        ("x skip con-D", false),
+        ("x call-x", true),
+        ("K call-x", false),
+        ("x op-M", true),
+        ("x' op-M", false),
+        ("skip open-M", true),
+        ("true spec-x open-M", false),
+    ];
+    code_is(&rt, rt.alloc(), &cases)
+}
+
+// An integer `x`, an array `a` of 3 cells, and a constant `K`; the module `M` is opened.
+fn context(alloc: Global) -> Result<Context, Fail> {
+    let mut scope = Scope::new(alloc);
+    for (word, sort, kind) in [
+        ("x", Sort::Int, Kind::Global),
+        ("a", Sort::Array(3), Kind::Value),
+        ("K", Sort::Int, Kind::Constant),
+    ] {
+        let name = name(word)?;
+        scope = scope.with(alloc, Entry { name, sort, kind })?;
+    }
+    let opened = one_name(alloc, "M")?;
+    Ok(Context {
+        scope,
+        opened,
+        order: 7,
+        inner: false,
+    })
+}
+
+fn scope_case(alloc: Global, context: &Context, text: &str) -> Result<bool, Fail> {
+    let prog = program(alloc, text)?;
+    Ok(well_scoped(alloc, context, prog.get())?)
+}
+
+fn scopes_are(
+    rt: &impl Abort,
+    alloc: Global,
+    context: &Context,
+    cases: &[(&str, bool)],
+) -> Result<(), Fail> {
+    for (text, want) in cases {
+        let found = scope_case(alloc, context, text)?;
+        assert_eq!(rt; found, *want, "at {text}");
+    }
+    Ok(())
+}
+
+#[test]
+fn names_are_in_scope_with_their_sorts(rt: HostRuntime) -> Result<(), Fail> {
+    let cases = [
+        ("skip", true),
+        ("kid", true),
+        ("x K + set-x", true),
+        ("y set-x", false),
+        ("D set-x", false),
+        ("1 set-y", false),
+        ("1 set-K", false),
+        ("K' set-x", false),
+        ("a set-a", true),
+        ("a set-x", false),
+        ("x a + set-x", false),
+        ("x x' = spec-x", true),
+        ("x y = spec-x", false),
+        ("x a = spec-x", false),
+        ("true spec-y", false),
+        ("x P spec-x", true),
+        ("y P spec-x", false),
+        ("x set-x y set-x ;", false),
+        ("y set-x x set-x ;", false),
+        ("x 0 < skip if", true),
+        ("y 0 < skip if", false),
+        ("a 0 < skip if", false),
+        ("x 0 < y set-x if", false),
+        ("x 0 x < skip do", true),
+        ("a 0 x < skip do", false),
+        ("x 0 y < skip do", false),
+        ("x call-x", true),
+        ("y call-x", false),
+        ("x call-y", false),
+    ];
+    let alloc = rt.alloc();
+    let context = context(alloc)?;
+    scopes_are(&rt, alloc, &context, &cases)
+}
+
+#[test]
+fn blocks_bring_names_and_take_them_away(rt: HostRuntime) -> Result<(), Fail> {
+    let cases = [
+        ("1 set-y var-y", true),
+        ("1 set-y var-y 1 set-y ;", false),
+        ("skip var-x", false),
+        ("skip var-K", false),
+        ("skip var-y var-y", false),
+        ("skip empty-y", false),
+        ("x D set-x con-D", true),
+        ("x D set-x con-D D set-x ;", false),
+        ("a D set-x con-D", false),
+        ("y skip con-D", false),
+        ("x 1 set-D con-D", false),
+        ("D skip con-D", false),
+        ("x op-M", true),
+        ("x op-N", false),
+        ("y op-M", false),
+        ("x op-N open-N", true),
+        ("x op-N open-N x op-N ;", false),
+        ("skip open-M", false),
+    ];
+    let alloc = rt.alloc();
+    let context = context(alloc)?;
+    scopes_are(&rt, alloc, &context, &cases)
+}
+
+fn copied(alloc: Global, text: &str) -> Result<Prog, Fail> {
+    let prog = program(alloc, text)?;
+    Ok(prog.get().copy(alloc)?)
+}
+
+fn params(alloc: Global) -> Result<Items<Param>, Fail> {
+    let mut params = Items::new(alloc);
+    params.push(Param {
+        name: name("x")?,
+        sort: Sort::Int,
+    })?;
+    Ok(params)
+}
+
+fn body(alloc: Global) -> Result<ProcCode, Fail> {
+    let values = params(alloc)?;
+    let results = Items::new(alloc);
+    let name = name("F")?;
+    Ok(ProcCode {
+        name,
+        place: 0,
+        values,
+        results,
+        body: Prog::Skip,
+    })
+}
+
+fn module(alloc: Global) -> Result<ModCode, Fail> {
+    let mut operations = Items::new(alloc);
+    operations.push(body(alloc)?)?;
+    let state = params(alloc)?;
+    let name = name("M")?;
+    Ok(ModCode {
+        name,
+        place: 1,
+        state,
+        start: Prog::Skip,
+        operations,
+    })
+}
+
+fn code(alloc: Global) -> Result<Code, Fail> {
+    let mut procs = Items::new(alloc);
+    procs.push(body(alloc)?)?;
+    let mut modules = Items::new(alloc);
+    modules.push(module(alloc)?)?;
+    Ok(Code {
+        main: Prog::Skip,
+        procs,
+        modules,
+    })
+}
+
+fn applied(alloc: Global) -> Result<Applied, Fail> {
+    let frame = one_name(alloc, "x")?;
+    let context = context(alloc)?;
+    let mut children = Items::new(alloc);
+    children.push(Child {
+        context,
+        spec: Spec {
+            frame,
+            pre: Formula::True,
+            post: Formula::True,
+        },
+    })?;
+    Ok(Applied {
+        skeleton: Prog::Kid(0),
+        children,
+        obligations: Items::new(alloc),
+    })
+}
+
+fn copies_stand(rt: &impl Abort, alloc: Global) -> Result<(), Fail> {
+    let code = code(alloc)?.copy(alloc)?;
+    assert_eq!(rt; code.modules.len(), 1);
+    let applied = applied(alloc)?.copy(alloc)?;
+    assert_eq!(rt; applied.children.len(), 1);
+    Ok(())
+}
+
+#[test]
+fn copies_are_made(rt: HostRuntime) -> Result<(), Fail> {
+    let prog = copied(rt.alloc(), "x 0 x < x skip con-D do")?;
+    assert!(rt; !is_code(&prog));
+    copies_stand(&rt, rt.alloc())
+}
