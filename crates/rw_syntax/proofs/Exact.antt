@@ -8,7 +8,7 @@ use Rattle.rw_syntax.specs.Machine.{State, wants, nest, step, run, from_state, t
 use Rattle.rw_syntax.specs.Spelling.{AreWithin, Spells, CanGoOn}
 use Rattle.rw_syntax.proofs.Choices.{guarded, chained, some_is, le_of, le_to, fits_of}
 use Rattle.rw_syntax.proofs.After.{run_stands, sound}
-use Rattle.rw_syntax.proofs.Goes.{state_grows}
+use Rattle.rw_syntax.proofs.Goes.{ArePlain, state_grows}
 use Rattle.rw_syntax.proofs.Reading.{run_append, trace_append, reads, complete}
 
 -- the limit is kept at each token
@@ -77,11 +77,15 @@ ends_spells most goal ts s v g e f =
     let n : trace goal (wants []) ts ≡ nests 0 sp.tree = ap (trace goal (wants [])) (sym sp.written) ∙ r.goes.nests_are in
     record { tree = sp.tree; formed = sp.formed; fit = sp.fit; written = sp.written; value = sp.value; within = subst (AreWithin most) n q.1 }
 
-pub runs_can : (most goal : ℕ) (ts : List Token) (s : State) → goal ≤ 9 → run_within most goal (wants []) ts ≡ Some s → CanGoOn most goal ts
-runs_can most goal ts s g e =
+-- what was read can go on, without words
+pub runs_plain : (most goal : ℕ) (ts : List Token) (s : State) → goal ≤ 9 → run_within most goal (wants []) ts ≡ Some s → (c : CanGoOn most goal ts) × ArePlain c.rest
+runs_plain most goal ts s g e =
     let q = split most goal (wants []) ts s e in
     let k = state_grows goal s ts g (run_stands goal (wants []) [] ts s g refl q.0) in
-    record { tree = k.tree; rest = k.rest; formed = k.formed; fit = k.fit; written = k.written; within = subst (AreWithin most) most (sym (front_nests goal k.tree ts k.rest s g k.formed k.fit k.written q.0)) q.1 }
+    (record { tree = k.tree; rest = k.rest; formed = k.formed; fit = k.fit; written = k.written; within = subst (AreWithin most) (sym (front_nests goal k.tree ts k.rest s g k.formed k.fit k.written q.0)) q.1 }, k.plain)
+
+pub runs_can : (most goal : ℕ) (ts : List Token) (s : State) → goal ≤ 9 → run_within most goal (wants []) ts ≡ Some s → CanGoOn most goal ts
+runs_can most goal ts s g e = (runs_plain most goal ts s g e).0
 
 pub can_runs : (most goal : ℕ) (ts : List Token) → goal ≤ 9 → CanGoOn most goal ts → (s : State) × (run_within most goal (wants []) ts ≡ Some s)
 can_runs most goal ts g c =

@@ -12,3 +12,4 @@ pub mod Reading
 pub mod Exact
 pub mod TermsApart
 pub mod Endings
+pub mod Stops
