@@ -90,7 +90,8 @@ fn check_equation(
     check_counted(scope, binders, u, next)
 }
 
-pub(crate) fn may_equal(one: Option<Sort>, other: Option<Sort>) -> bool
+/// Whether two terms can be equal as far as their sorts are known.
+pub fn may_equal(one: Option<Sort>, other: Option<Sort>) -> bool
     ensures { result ≡ may_equal one other }
 {
     match one {
@@ -99,7 +100,8 @@ pub(crate) fn may_equal(one: Option<Sort>, other: Option<Sort>) -> bool
     }
 }
 
-pub(crate) fn may_be(sort: Sort, other: Option<Sort>) -> bool
+/// Whether a term can have this sort as far as its own is known.
+pub fn may_be(sort: Sort, other: Option<Sort>) -> bool
     ensures { result ≡ may_be sort other }
 {
     match other {
@@ -118,7 +120,8 @@ fn same_sort(one: Sort, other: Sort) -> bool
     }
 }
 
-pub(crate) fn is_sort(sort: Sort) -> bool
+/// Whether an array's length is 1 to 1024.
+pub fn is_sort(sort: Sort) -> bool
     ensures { result ≡ is_sort sort }
 {
     match sort {
@@ -127,7 +130,8 @@ pub(crate) fn is_sort(sort: Sort) -> bool
     }
 }
 
-pub(crate) fn find_head<'a>(heads: &'a [Head], name: &Name) -> Option<&'a Head>
+/// The head of a predicate: the first one of its name.
+pub fn find_head<'a>(heads: &'a [Head], name: &Name) -> Option<&'a Head>
     ensures { option_copied result ≡ find (is_head name.now) heads.now }
 {
     for head in heads {
@@ -205,8 +209,8 @@ fn check_terms(scope: &Scope, binders: &[Sort], args: &[Term], place: u32) -> Re
     Ok(next)
 }
 
-// The binders with one more inside.
-pub(crate) fn bind(alloc: Global, sort: Sort, binders: &[Sort]) -> Result<Items<Sort>, AllocError>
+/// The binders with one more inside.
+pub fn bind(alloc: Global, sort: Sort, binders: &[Sort]) -> Result<Items<Sort>, AllocError>
     ensures { IfOk result (λ inner. inner ≡ sort ∷ binders.now) }
 {
     let mut inner = Items::new(alloc);

@@ -4,8 +4,6 @@ ghost use Rattle.rw_terms.specs.Agreement.{ValuesAgree, TruthAgrees, TruthIgnore
 ghost use Rattle.rw_terms.specs.InScope.{NamesAreExact, ValidFollows};
 ghost use Rattle.rw_terms.specs.Typed.{SortLaw};
 ghost use Rattle.rw_terms.specs.Rounding.{QuotientLaw, RestOfPositive, RestOfNegative, ByZero};
-ghost use Rattle.rw_terms.specs.Preorder.{FirstInPreorder, FirstInFormula};
-ghost use Rattle.rw_terms.specs.Faults.{FaultsApart};
 
 /// Values and truth depend on the names that a term or a formula mentions, and on no other.
 pub fn agreement()
@@ -23,17 +21,6 @@ pub fn names_in_scope()
 /// In every state that fits the scope, the value of a term that keeps the rules has the sort that they give it.
 pub fn values_have_sorts()
     ensures { SortLaw }
-{}
-
-/// What is refused for its sorts is refused for the first of its parts in preorder that breaks its own rule.
-pub fn faults_in_preorder()
-    ensures terms { FirstInPreorder }
-    ensures formulas { FirstInFormula }
-{}
-
-/// A formula keeps the rules exactly where it has no unknown name and is not ill-sorted.
-pub fn faults_apart()
-    ensures { FaultsApart }
 {}
 
 /// The quotient rounds to minus infinity, the rest has the sign of the divisor, and by 0 both are 0.

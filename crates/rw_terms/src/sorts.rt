@@ -101,7 +101,7 @@ pub fn check_term(
     }
 }
 
-// The sort that a term gives, if its rules are kept.
+/// The sort that a term gives, if its rules are kept.
 pub fn given_sort(scope: &Scope, binders: &[Sort], term: &Term) -> Option<Sort>
     ensures { result ≡ (sort_report scope.now binders.now term.now).sort }
 {
@@ -115,13 +115,15 @@ pub fn given_sort(scope: &Scope, binders: &[Sort], term: &Term) -> Option<Sort>
     }
 }
 
-pub(crate) fn binder(binders: &[Sort], k: u32) -> Option<Sort>
+/// The sort of a place where a binder is used; None where no binder is open for it.
+pub fn binder(binders: &[Sort], k: u32) -> Option<Sort>
     ensures { result ≡ slice_get binders.now k }
 {
     at(binders, k as usize).copied()
 }
 
-pub(crate) fn variable(scope: &Scope, name: &Name) -> Option<Sort>
+/// The sort of a name as a variable or an initial variable; None where the scope has no such entry.
+pub fn variable(scope: &Scope, name: &Name) -> Option<Sort>
     ensures { result ≡ variable_sort scope.now name.now }
 {
     let entry = scope.find(name)?;
@@ -131,7 +133,8 @@ pub(crate) fn variable(scope: &Scope, name: &Name) -> Option<Sort>
     }
 }
 
-pub(crate) fn constant(scope: &Scope, name: &Name) -> Option<Sort>
+/// The sort of a name as a constant; None where the scope has no such entry.
+pub fn constant(scope: &Scope, name: &Name) -> Option<Sort>
     ensures { result ≡ constant_sort scope.now name.now }
 {
     let entry = scope.find(name)?;
@@ -141,19 +144,21 @@ pub(crate) fn constant(scope: &Scope, name: &Name) -> Option<Sort>
     }
 }
 
+/// Whether the sort can be `int` as far as it is known.
 pub fn is_int(sort: Option<Sort>) -> bool
     ensures { result ≡ may_be_int sort }
 {
     !matches!(sort, Some(Sort::Array(_)))
 }
 
-pub(crate) fn is_array(sort: Option<Sort>) -> bool
+/// Whether the sort can be an array's as far as it is known.
+pub fn is_array(sort: Option<Sort>) -> bool
     ensures { result ≡ may_be_array sort }
 {
     !matches!(sort, Some(Sort::Int))
 }
 
-// The number behind a part that keeps its rule.
+/// The number behind a part that keeps its rule.
 pub fn holds(keeps: bool, place: u32) -> Result<u32, TermError>
     requires { place < u32.MAX }
     ensures next { IfOk result (λ next. next ≡ place + 1) }

@@ -1,7 +1,7 @@
 //! What the contracts leave open: examples whose answers were worked out by hand, and the depth that the stack carries.
 
+use crate::division::{quotient, rest};
 use crate::error::{NameError, ScopeError, TermError};
-use crate::faults::is_ill_sorted;
 use crate::formed::well_formed;
 use crate::measure::{depth, depth_of_term, weight, weight_of_term};
 use crate::mention::{free_in, free_in_term};
@@ -13,7 +13,6 @@ use crate::sequent::Sequent;
 use crate::sorts::sort_of;
 use crate::term::{Formula, Sort, Term};
 use crate::text::Text;
-use crate::unknown::unknown_in;
 use rw_items::{Boxed, Items};
 use std::alloc::Global;
 use std::process::Abort;
@@ -343,52 +342,28 @@ fn formulas_are_formed_or_have_a_first_part_at_fault(rt: HostRuntime) -> Result<
     formed_are(&rt, alloc, &scope, heads.as_slice(), &cases)
 }
 
-fn unknown_told(alloc: Global, unknown: Option<Name>) -> Result<String, Fail> {
-    match unknown {
-        Some(name) => Ok(format!(in alloc; "{name}")?),
-        None => Ok(format!(in alloc; "-")?),
+// The dividend, the divisor, the quotient and the rest.
+fn divisions_are(rt: &impl Abort, cases: &[(i128, i128, i128, i128)]) {
+    for (dividend, divisor, want, left) in cases {
+        assert_eq!(rt; quotient(*dividend, *divisor), Some(*want));
+        assert_eq!(rt; rest(*dividend, *divisor), *left);
     }
-}
-
-fn fault_case(alloc: Global, scope: &Scope, heads: &[Head], text: &str) -> Result<String, Fail> {
-    let formula = formula(alloc, text)?;
-    if is_ill_sorted(alloc, scope, heads, &[], &formula)? {
-        return Ok(format!(in alloc; "ill")?);
-    }
-    unknown_told(alloc, unknown_in(scope, heads, &formula))
-}
-
-fn faults_are(
-    rt: &impl Abort,
-    alloc: Global,
-    scope: &Scope,
-    heads: &[Head],
-    cases: &[(&str, &str)],
-) -> Result<(), Fail> {
-    for (text, want) in cases {
-        let told = fault_case(alloc, scope, heads, text)?;
-        assert_eq!(rt; told.as_str(), *want, "at {text}");
-    }
-    Ok(())
 }
 
 #[test]
-fn unknown_names_are_not_held_against_sorts(rt: HostRuntime) -> Result<(), Fail> {
+fn division_rounds_to_minus_infinity(rt: HostRuntime) -> Result<(), Fail> {
     let cases = [
-        ("x 1 =", "-"),
-        ("zz 1 = a 1 = and", "ill"),
-        ("zz 1 + a =", "ill"),
-        ("zz a =", "zz"),
-        ("a 1 = zz 1 = and", "ill"),
-        ("x a Q", "Q"),
-        ("yy zz P", "yy"),
-        ("x f P", "f"),
-        ("_0 zz = all-0", "ill"),
+        (7, 2, 3, 1),
+        (-7, 2, -4, 1),
+        (7, -2, -4, -1),
+        (-7, -2, 3, -1),
+        (-8, 2, -4, 0),
+        (5, 0, 0, 0),
+        (i128::MIN, 1, i128::MIN, 0),
     ];
-    let alloc = rt.alloc();
-    let scope = scope(alloc)?;
-    let heads = heads(alloc)?;
-    faults_are(&rt, alloc, &scope, heads.as_slice(), &cases)
+    divisions_are(&rt, &cases);
+    assert_eq!(&rt; quotient(i128::MIN, -1), None);
+    Ok(())
 }
 
 // 1 is doubled so often, and then negated so often.

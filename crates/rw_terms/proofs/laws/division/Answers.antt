@@ -1,4 +1,4 @@
-use Rattle.rw_terms.proofs.Division.{quotient_law, rest_of_positive, rest_of_negative, by_zero}
+use Rattle.rw_terms.proofs.Dividing.{quotient_law, rest_of_positive, rest_of_negative, by_zero}
 use Rattle.rw_terms.proofs.laws.division.Goals as goal
 
 pub returns : goal.returns

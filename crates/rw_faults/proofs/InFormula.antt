@@ -15,9 +15,9 @@ use Rattle.rw_terms.specs.declared.term.Formula.TheFolds.{fold-Formula, map-Form
 use Rattle.rw_terms.specs.Size.{term_weight, terms_weight}
 use Rattle.rw_terms.specs.Sorts.{SortReport, sort_report, first_of}
 use Rattle.rw_terms.specs.Formed.{FormulaReport, formula_report, formula_report_step, is_head, first_fault, application}
-use Rattle.rw_terms.specs.Preorder.{OfTerm, Part, ListedFormula, parts_of_term, preorder, own_fault, first_broken, formula_parts_below, listed_formula_step, application_fault, formula_own_fault, part_fault, first_broken_part, FirstInFormula}
+use Rattle.rw_faults.specs.Preorder.{OfTerm, Part, ListedFormula, parts_of_term, preorder, own_fault, first_broken, formula_parts_below, listed_formula_step, application_fault, formula_own_fault, part_fault, first_broken_part, FirstInFormula}
 use Rattle.rw_terms.proofs.SortReports.{parts_are_weight}
-use Rattle.rw_terms.proofs.InPreorder.{first_chain, first_in_preorder, parts_are_listed}
+use Rattle.rw_faults.proofs.InPreorder.{first_chain, first_in_preorder, parts_are_listed}
 
 length_of_map : {X Y : Type 0} (f : X → Y) (xs : List X) → length (map f xs) ≡ length xs
 length_of_map f [] = refl

@@ -10,7 +10,7 @@ use Rattle.rw_terms.specs.declared.term.Term.TheOpen.{Term-F}
 use Rattle.rw_terms.specs.declared.term.Term.TheViews.{roll-Term, out-Term, out-roll-Term}
 use Rattle.rw_terms.specs.declared.term.Term.TheFolds.{fold-Term, map-Term, ind-Term, fold-roll-Term}
 use Rattle.rw_terms.specs.Sorts.{SortReport, sort_report, sort_report_step, first_of, named, bound}
-use Rattle.rw_terms.specs.Preorder.{Listed, parts_below, listed_step, preorder, own_fault, first_broken, FirstInPreorder}
+use Rattle.rw_faults.specs.Preorder.{Listed, parts_below, listed_step, preorder, own_fault, first_broken, FirstInPreorder}
 
 pub first_chain : (d e f : Option TermError) → first_of (first_of d e) f ≡ first_of d (first_of e f)
 first_chain None e f = refl

@@ -2,12 +2,12 @@
 
 ghost use Rattle.std.specs.Prelude.{◌≡◌, ◌||◌, not, map, IfOk, option_copied};
 ghost use Rattle.rw_terms.specs.Formed.{may_equal};
-ghost use Rattle.rw_terms.specs.Faults.{leaf, of_binder, on_int, on_ints, on_read, on_put, any_bad, fit_in, bad_application, checked, is_ill_sorted};
+ghost use Rattle.rw_faults.specs.Faults.{leaf, of_binder, on_int, on_ints, on_read, on_put, any_bad, fit_in, bad_application, checked, is_ill_sorted};
 
-use crate::formed::{bind, find_head, is_sort, may_be, may_equal};
-use crate::scope::{Head, Scope};
-use crate::sorts::{binder, constant, is_array, is_int, variable};
-use crate::term::{Formula, Sort, Term};
+use rw_terms::formed::{bind, find_head, is_sort, may_be, may_equal};
+use rw_terms::scope::{Head, Scope};
+use rw_terms::sorts::{binder, constant, is_array, is_int, variable};
+use rw_terms::term::{Formula, Sort, Term};
 use std::alloc::{AllocError, Global};
 
 /// The sort that a term gives, if that is known, and whether some part of it has a sort that its rule does not take.

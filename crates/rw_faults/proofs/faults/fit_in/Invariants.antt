@@ -1,6 +1,6 @@
 use Rattle.std.proofs.Common.{◌≡◌, map, drop, length}
-use Rattle.rw_terms.specs.Faults.{each_fits, checked}
-use Rattle.rw_terms.proofs.faults.fit_in.Given as goal
+use Rattle.rw_faults.specs.Faults.{each_fits, checked}
+use Rattle.rw_faults.proofs.faults.fit_in.Given as goal
 
 abbrev pub invariant-loop-i : goal.invariant-loop-i
 invariant-loop-i l = record {

@@ -1,10 +1,10 @@
 use Rattle.std.proofs.Common.{◌≡◌, ◌+◌, ◌<◌, ◌∙◌, ◌&&◌, ℕ, suc, List, map, drop, length, true, ap, arith, get_or, add-one, drop-cons}
 use Rattle.rw_terms.specs.declared.term.Sort.{Sort}
 use Rattle.rw_terms.specs.declared.term.Term.{Term}
-use Rattle.rw_terms.specs.declared.faults.Checked.{Checked}
+use Rattle.rw_faults.specs.declared.faults.Checked.{Checked}
 use Rattle.rw_terms.specs.Formed.{may_be}
-use Rattle.rw_terms.specs.Faults.{each_fits, checked}
-use Rattle.rw_terms.proofs.faults.fit_in.Goals as goal
+use Rattle.rw_faults.specs.Faults.{each_fits, checked}
+use Rattle.rw_faults.proofs.faults.fit_in.Goals as goal
 
 -- one sort and one term more
 one_fits : (f : Term → Checked) (ss : List Sort) (ts : List Term) (i : ℕ) (d : Sort) (t : Term) → i < length ss → i < length ts → t ≡ get_or ts i t →

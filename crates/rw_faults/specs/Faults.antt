@@ -10,7 +10,7 @@ use Rattle.rw_terms.specs.declared.term.Formula.TheOpen.{Formula-F}
 use Rattle.rw_terms.specs.declared.term.Formula.TheFolds.{fold-Formula}
 use Rattle.rw_terms.specs.declared.scope.Entry.{Entry}
 use Rattle.rw_terms.specs.declared.scope.Head.{Head}
-use Rattle.rw_terms.specs.declared.faults.Checked.{Checked}
+use Rattle.rw_faults.specs.declared.faults.Checked.{Checked}
 use Rattle.rw_terms.specs.Sorts.{variable_sort, constant_sort, is_literal, may_be_int, may_be_array}
 use Rattle.rw_terms.specs.Formed.{may_be, may_equal, is_sort, is_head}
 use Rattle.rw_terms.specs.Rules.{keeps_rules}

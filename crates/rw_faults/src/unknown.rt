@@ -1,13 +1,13 @@
 //! Names that are not known.
 
 ghost use Rattle.std.specs.Prelude.{◌≡◌, map};
-ghost use Rattle.rw_terms.specs.Faults.{unless_known, first_of_names, unknown_in_term, unknown_in};
+ghost use Rattle.rw_faults.specs.Faults.{unless_known, first_of_names, unknown_in_term, unknown_in};
 
-use crate::formed::find_head;
-use crate::name::Name;
-use crate::scope::{Head, Scope};
-use crate::sorts::{constant, variable};
-use crate::term::{Formula, Sort, Term};
+use rw_terms::formed::find_head;
+use rw_terms::name::Name;
+use rw_terms::scope::{Head, Scope};
+use rw_terms::sorts::{constant, variable};
+use rw_terms::term::{Formula, Sort, Term};
 
 /// The first name in preorder that the scope does not have in its form, or predicate that has no head. The sorts are not looked at.
 pub fn unknown_in(scope: &Scope, heads: &[Head], formula: &Formula) -> Option<Name>

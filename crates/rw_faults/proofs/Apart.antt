@@ -4,7 +4,7 @@ use Rattle.std.specs.Prelude.{not, nat_eq, ◌&&◌}
 use Rattle.rw_terms.specs.declared.error.TermError.{TermError}
 use Rattle.rw_terms.specs.declared.scope.Entry.{Entry}
 use Rattle.rw_terms.specs.declared.scope.Head.{Head}
-use Rattle.rw_terms.specs.declared.faults.Checked.{Checked}
+use Rattle.rw_faults.specs.declared.faults.Checked.{Checked}
 use Rattle.rw_terms.specs.declared.term.Sort.{Sort}
 use Rattle.rw_terms.specs.declared.term.Term.{Term}
 use Rattle.rw_terms.specs.declared.term.Term.TheOpen.{Term-F}
@@ -16,7 +16,7 @@ use Rattle.rw_terms.specs.declared.term.Formula.TheViews.{roll-Formula}
 use Rattle.rw_terms.specs.declared.term.Formula.TheFolds.{map-Formula, ind-Formula, fold-roll-Formula}
 use Rattle.rw_terms.specs.Sorts.{SortReport, sort_report, sort_report_step, first_of, unless, named, bound, binary, may_be_int, may_be_array, is_literal}
 use Rattle.rw_terms.specs.Formed.{FormulaReport, formula_report, formula_report_step, may_be, may_equal, is_sort, is_head, pairs_fit, takes, first_fault, equation, application}
-use Rattle.rw_terms.specs.Faults.{unless_known, first_name, first_of_names, unknown_predicate, unknown_step, unknown_in_term, formula_unknown_step, unknown_in, of_binder, on_ints, any_bad, each_fits, fit_in, bad_application, checked_step, checked, ill_step, is_ill_sorted, FaultsApart}
+use Rattle.rw_faults.specs.Faults.{unless_known, first_name, first_of_names, unknown_predicate, unknown_step, unknown_in_term, formula_unknown_step, unknown_in, of_binder, on_ints, any_bad, each_fits, fit_in, bad_application, checked_step, checked, ill_step, is_ill_sorted, FaultsApart}
 use Rattle.rw_terms.proofs.Reported.{first_none, second_none, none_none, rule_kept, keeps_rule}
 use Rattle.rw_terms.proofs.FormedRules.{formula_told}
 
