@@ -3,7 +3,7 @@ use Rattle.std.proofs.Common.{◌≡◌, ℕ, suc, ◌≤◌, cond, List, [], �
 use Rattle.std.specs.Prelude.{leb, option_and_then}
 use Rattle.rw_syntax.specs.declared.token.Token.{Token}
 use Rattle.rw_syntax.specs.declared.frame.Part.{Part}
-use Rattle.rw_syntax.specs.Grammar.{Tree, level, fits, IsFormed, text, nests}
+use Rattle.rw_syntax.specs.Grammar.{Tree, level, fits, IsFormed, text, nests, Reads}
 use Rattle.rw_syntax.specs.Machine.{State, wants, nest, step, run, from_state, trace, finish, limited, advance, run_within}
 use Rattle.rw_syntax.specs.Spelling.{AreWithin, Spells, CanGoOn}
 use Rattle.rw_syntax.proofs.Choices.{guarded, chained, some_is, le_of, le_to, fits_of}
@@ -67,7 +67,7 @@ spells_ends most goal ts v g sp =
     let c = complete goal ts v g (record { tree = sp.tree; formed = sp.formed; fit = sp.fit; written = sp.written; value = sp.value }) in
     let r = reads sp.tree goal [] g sp.formed (fits_of goal (level sp.tree) sp.fit).0 in
     let n : trace goal (wants []) ts ≡ nests 0 sp.tree = ap (trace goal (wants [])) (sym sp.written) ∙ r.goes.nests_are in
-    record { state = c.state; runs = join most goal (wants []) ts c.state c.runs (subst (AreWithin most) most (sym n) sp.within); ends = c.ends }
+    record { state = c.state; runs = join most goal (wants []) ts c.state c.runs (subst (AreWithin most) (sym n) sp.within); ends = c.ends }
 
 pub ends_spells : (most goal : ℕ) (ts : List Token) (s : State) (v : Part) → goal ≤ 9 → run_within most goal (wants []) ts ≡ Some s → finish goal s ≡ Some v → Spells most goal ts v
 ends_spells most goal ts s v g e f =
@@ -92,7 +92,7 @@ can_runs most goal ts g c =
     let r = reads c.tree goal [] g c.formed (fits_of goal (level c.tree) c.fit).0 in
     let whole = sym (run_append goal (wants []) ts c.rest) ∙ ap (run goal (wants [])) (sym c.written) ∙ r.goes.runs in
     let q = chained (λ s. run goal s c.rest) (run goal (wants []) ts) r.state whole in
-    (q.0, join most goal (wants []) ts q.0 q.1 (subst (AreWithin most) most (front_nests goal c.tree ts c.rest q.0 g c.formed c.fit c.written q.1) c.within))
+    (q.0, join most goal (wants []) ts q.0 q.1 (subst (AreWithin most) (front_nests goal c.tree ts c.rest q.0 g c.formed c.fit c.written q.1) c.within))
 
 -- no tokens spell two values
 pub one_value : (most goal : ℕ) (ts : List Token) (v w : Part) → goal ≤ 9 → Spells most goal ts v → Spells most goal ts w → v ≡ w
@@ -127,3 +127,26 @@ no_value most goal ts s v g e n sp =
     let same : x.state ≡ s = some_is (sym x.runs ∙ e) in
     let z : finish goal x.state ≡ None = ap (finish goal) same ∙ n in
     absurd (cc (x.ends, z))
+
+-- tokens that a value begins with
+pub first_step : (goal : ℕ) (t : Token) (ts : List Token) (v : Part) → goal ≤ 9 → Reads goal (t ∷ ts) v → (s : State) × (step goal (wants []) t ≡ Some s)
+unfolding run
+first_step goal t ts v g r =
+    let c = complete goal (t ∷ ts) v g r in
+    let q = chained (λ s. run goal s ts) (step goal (wants []) t) c.state c.runs in
+    (q.0, q.1)
+
+-- a value has tokens
+pub some_tokens : (goal : ℕ) (v : Part) → goal ≤ 9 → ¬ (Reads goal [] v)
+unfolding run
+some_tokens goal v g r =
+    let c = complete goal [] v g r in
+    let same : wants [] ≡ c.state = some_is c.runs in
+    let z : None ≡ Some v = ap (finish goal) same ∙ c.ends in
+    absurd (cc)
+
+-- as many nests as tokens
+pub nests_length : (goal : ℕ) (t : Tree) → goal ≤ 9 → IsFormed [] t → IsTrue (fits goal (level t)) → length (nests 0 t) ≡ length (text t)
+nests_length goal t g f k =
+    let r = reads t goal [] g f (fits_of goal (level t) k).0 in
+    ap length (sym r.goes.nests_are) ∙ trace_length goal (wants []) (text t) r.state r.goes.runs

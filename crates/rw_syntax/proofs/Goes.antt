@@ -64,7 +64,7 @@ fitted env wanted t f h = go (leb 6 (level t)) refl (leb 6 wanted) refl
     go true a false b =
         let q = le_of 6 (level t) a in
         let r = lt_of 6 wanted b in
-        record { tree = binary infixes.Equal t (leaf (number 0)); rest = tokens.Infix infixes.Equal ∷ tokens.Number 0 ∷ []; plain = (refl, refl, tt); formed = (fits_to 6 (level t) q (λ x. absurd (omega arith)), refl, f, refl); fit = fits_to wanted 5 (omega arith) (λ x. omega arith); written = refl }
+        record { tree = binary infixes.Equal t (leaf (number 0)); rest = tokens.Infix infixes.Equal ∷ tokens.Number 0 ∷ []; plain = (refl, (refl, tt)); formed = (fits_to 6 (level t) q (λ x. absurd (omega arith)), refl, f, refl); fit = fits_to wanted 5 (omega arith) (λ x. omega arith); written = refl }
     go true a true b =
         let q = le_of 6 wanted b in
         record { tree = t; rest = []; plain = tt; formed = f; fit = fits_to wanted (level t) h (λ x. absurd (omega arith)); written = sym (append-nil (text t)) }
@@ -91,7 +91,7 @@ record Lists (env : List Binder) (h : Head) (ready_ones : Trees) (t : Tree) : Ty
 zero_more : (env : List Binder) (h : Head) (ready_ones : Trees) (t : Tree) → Lists env h (more ready_ones t) (leaf (number 0)) → Lists env h ready_ones t
 zero_more env h ready_ones t l = record {
   rest = tokens.Comma ∷ tokens.Number 0 ∷ l.rest;
-  plain = (refl, refl, l.plain);
+  plain = (refl, (refl, l.plain));
   all_done = l.all_done;
   last = l.last;
   enough = l.enough;
@@ -207,10 +207,10 @@ quantified goal fs before own rest q b o z g s v r ts e w =
     }
 
 beginning : (goal : ℕ) (p : Partial) (fs : List Frame) (ts : List Token) → goal ≤ 9 → Begins goal p fs ts → Grows goal ts
-beginning goal (partials.Naming q) fs ts g h = quantified goal fs h.before (partial_text (partials.Naming q)) (tokens.Place 1 ∷ tokens.Colon ∷ tokens.Int ∷ tokens.Dot ∷ []) q (binders.Numbered 1) sorts.Int (refl, refl, refl, refl, tt) g h.stands refl h.room ts h.written refl
-beginning goal (partials.Named q b) fs ts g h = quantified goal fs h.before (partial_text (partials.Named q b)) (tokens.Colon ∷ tokens.Int ∷ tokens.Dot ∷ []) q b sorts.Int (refl, refl, refl, tt) g h.stands (ap (λ x. cond x true false) h.valid) h.room ts h.written refl
-beginning goal (partials.Sorting q b) fs ts g h = quantified goal fs h.before (partial_text (partials.Sorting q b)) (tokens.Int ∷ tokens.Dot ∷ []) q b sorts.Int (refl, refl, tt) g h.stands (ap (λ x. cond x true false) h.valid) h.room ts h.written refl
-beginning goal (partials.Measuring q b) fs ts g h = quantified goal fs h.before (partial_text (partials.Measuring q b)) (tokens.Number 1 ∷ tokens.Dot ∷ []) q b (sorts.Array 1) (refl, refl, tt) g h.stands (ap (λ x. cond x true false) h.valid) h.room ts h.written refl
+beginning goal (partials.Naming q) fs ts g h = quantified goal fs h.before (partial_text (partials.Naming q)) (tokens.Place 1 ∷ tokens.Colon ∷ tokens.Int ∷ tokens.Dot ∷ []) q (binders.Numbered 1) sorts.Int (refl, (refl, (refl, (refl, tt)))) g h.stands refl h.room ts h.written refl
+beginning goal (partials.Named q b) fs ts g h = quantified goal fs h.before (partial_text (partials.Named q b)) (tokens.Colon ∷ tokens.Int ∷ tokens.Dot ∷ []) q b sorts.Int (refl, (refl, (refl, tt))) g h.stands (ap (λ x. cond x true false) h.valid) h.room ts h.written refl
+beginning goal (partials.Sorting q b) fs ts g h = quantified goal fs h.before (partial_text (partials.Sorting q b)) (tokens.Int ∷ tokens.Dot ∷ []) q b sorts.Int (refl, (refl, tt)) g h.stands (ap (λ x. cond x true false) h.valid) h.room ts h.written refl
+beginning goal (partials.Measuring q b) fs ts g h = quantified goal fs h.before (partial_text (partials.Measuring q b)) (tokens.Number 1 ∷ tokens.Dot ∷ []) q b (sorts.Array 1) (refl, (refl, tt)) g h.stands (ap (λ x. cond x true false) h.valid) h.room ts h.written refl
 beginning goal (partials.Sorted q b o) fs ts g h = quantified goal fs h.before (partial_text (partials.Sorted q b o)) (tokens.Dot ∷ []) q b o (refl, tt) g h.stands h.valid h.room ts h.written refl
 beginning goal partials.Putting fs ts g h =
     let own = tokens.Put ∷ tokens.Open ∷ [] in
