@@ -179,13 +179,17 @@ name_in (line l) = []
 unfoldable pub names : (List (List ℕ) → Form) → Form
 names k = many name_form (codes ",") (λ gs. k (map name_in gs))
 
--- [ FORM , FORM ] behind a frame
-unfoldable pub bracketed : List (List ℕ) → (Spec → Form) → Form
-bracketed frame k = mark (codes "[") (formula 511 (λ f. mark (codes ",") (formula 511 (λ g. mark (codes "]") (k (record { frame = frame; pre = f; post = g }))))))
+-- a frame and a colon; an empty frame is written as nothing
+unfoldable pub frame : (List (List ℕ) → Form) → Form
+frame k = either (codes ":") (k []) (names (λ xs. mark (codes ":") (k xs)))
 
--- [ NAMES ] : [ FORM , FORM ]
+-- [ FORM , FORM ] behind a frame
+abbrev pub bracketed : List (List ℕ) → (Spec → Form) → Form
+bracketed xs k = mark (codes "[") (formula 511 (λ f. mark (codes ",") (formula 511 (λ g. mark (codes "]") (k (record { frame = xs; pre = f; post = g }))))))
+
+-- FRAME [ FORM , FORM ]
 unfoldable pub spec : (Spec → Form) → Form
-spec k = either (codes ":") (bracketed [] k) (names (λ frame. mark (codes ":") (bracketed frame k)))
+spec k = frame (λ xs. bracketed xs k)
 
 abbrev pub main_tree : Place
 main_tree = record { tree = trees.Main; path = record { kids = [] } }
@@ -202,9 +206,13 @@ root_form = spec (λ s. gives (request (requests.Edit (edits.Root s))))
 unfoldable pub step_form : Form
 step_form = mark (codes "main") (mark (codes "skip") (gives (request (requests.Edit (edits.Step main_tree (steps.Basic laws.Skip))))))
 
--- a rule's name
+-- a rule and its arguments
+unfoldable pub rule : (CertLine → Form) → Form
+rule k = mark (codes "ax") (k lines.Ax)
+
+-- a line of a certificate as an item
 unfoldable pub line_form : Form
-line_form = mark (codes "ax") (gives (line lines.Ax))
+line_form = rule (λ l. gives (line l))
 
 abbrev pub line_in : Given → CertLine
 line_in (request r) = lines.Ax

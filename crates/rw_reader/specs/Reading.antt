@@ -1,8 +1,9 @@
 -- What a line's tokens spell, where its fault is, and what is read.
-use Rattle.std.specs.Prelude.{◌≡◌, ℕ, zero, suc, ◌+◌, ◌-◌, ◌≤◌, cond, List, [], ◌∷◌, ◌++◌, length, Option, Some, None, option_map, option_and_then}
+use Rattle.std.specs.Prelude.{◌≡◌, ℕ, zero, suc, ◌+◌, ◌-◌, ◌≤◌, Bool, true, cond, List, [], ◌∷◌, ◌++◌, length, Option, Some, None, option_map, option_and_then}
 use Rattle.rw_syntax.specs.declared.token.Token.{Token as Class}
 use Rattle.rw_syntax.specs.declared.frame.Part.{Part}
 use Rattle.rw_syntax.specs.Machine.{wants, run_within, finish}
+use Rattle.rw_syntax.specs.Stops.{stops_at}
 use Rattle.rw_reader.specs.declared.request.Request.{Request}
 use Rattle.rw_reader.specs.Tokens.{Token, skip, token_at, LeadsTo}
 use Rattle.rw_reader.specs.Classes.{class_of}
@@ -39,6 +40,14 @@ value_of most goal done = option_and_then (finish goal) (run_within most goal (w
 abbrev pub one_more : ℕ → ℕ → List Class → Class → Option (List Class)
 one_more most goal done c = option_map (λ _. done ++ c ∷ []) (run_within most goal (wants []) (done ++ c ∷ []))
 
+-- Whether a token ends a value: it stands in none, or a whole value does not go on with it.
+abbrev pub ends_class : Option Class → Bool
+ends_class None = true
+ends_class (Some c) = stops_at c
+
+abbrev pub ends_value : Token → Bool
+ends_value t = ends_class (class_of t)
+
 -- what is left of a value that goes on, or else what follows it
 abbrev pub gone_on : (List Class → Form) → Option Form → Option (List Class) → Option Form
 gone_on go other None = other
@@ -49,7 +58,7 @@ abbrev pub after : Form → Token → Option Form
 after (gives g) t = None
 after (takes s k) t = option_map k (filled s t)
 after (either w f g) t = cond (is_text w t) (Some f) (after g t)
-after (rest_of most goal done k) t = gone_on (λ more. rest_of most goal more k) (option_and_then (λ v. after (k v) t) (value_of most goal done)) (option_and_then (one_more most goal done) (class_of t))
+after (rest_of most goal done k) t = gone_on (λ more. rest_of most goal more k) (cond (ends_value t) (option_and_then (λ v. after (k v) t) (value_of most goal done)) None) (option_and_then (one_more most goal done) (class_of t))
 after (more_of item sep done k) t = cond (is_text sep t) (Some (followed item (λ g. more_of item sep (done ++ g ∷ []) k))) (after (k done) t)
 
 -- what a form gives where the tokens end

@@ -1,25 +1,26 @@
 //! Reads a request.
 
-ghost use Rattle.std.specs.Prelude.{◌≡◌, ℕ, ◌≤◌, ◌⊎◌, length, IfOk, IfErr};
-ghost use Rattle.rw_reader.specs.Forms.{main_tree, var_form, root_form, step_form, prove_form};
+ghost use Rattle.std.specs.Prelude.{◌≡◌, ℕ, ◌<◌, ◌^◌, ◌⊎◌, length, IfOk, IfErr};
+ghost use Rattle.rw_reader.specs.Forms.{main_tree, var_form, root_form, step_form, prove_form, rule, cert};
 ghost use Rattle.rw_reader.specs.Reading.{reading, reads, fault};
-ghost use Rattle.rw_reader.specs.Progress.{IsPlace, Answers};
+ghost use Rattle.rw_reader.specs.Progress.{IsPlace, Took, Answers};
 ghost use Rattle.rw_reader.specs.declared.request.ReadError.TheVariants as read_error;
 
 use crate::request::{ReadError, Request};
-use crate::taking::{accept, atom, end, expect, number, variable};
+use crate::taking::{accept, end, expect, number, sort, variable};
 use crate::token::skip;
+use crate::value::spec;
 use rw_items::Items;
 use rw_laws::step::BasicStep;
-use rw_programs::prog::{Param, Spec};
+use rw_programs::prog::Param;
 use rw_sequents::line::{Cert, CertLine};
-use rw_terms::term::Sort;
 use rw_tree::edit::{Edit, Path, Place, Step, TreeName};
 use std::alloc::Global;
 
 /// Reads a line as a request. Its tokens spell that request; else the fault is told, where its tokens cannot go on.
+/// A line has fewer than 2^32 bytes, since an offset is a `u32`.
 pub fn read_request(alloc: Global, line: &[u8]) -> Result<Request, ReadError>
-    requires { length line.now ≤ 65536 }
+    requires { length line.now < 2 ^ 32 }
     ensures ok { IfOk result (λ r. reading line.now ≡ reads r) }
     ensures err { IfErr result (λ e. (e ≡ read_error.Memory) ⊎ ((o : ℕ) × (e ≡ read_error.Syntax o) × (reading line.now ≡ fault o))) }
 {
@@ -41,37 +42,26 @@ pub fn read_request(alloc: Global, line: &[u8]) -> Result<Request, ReadError>
     Ok(Request::Status)
 }
 
-// `NAME : int`
+// `NAME : SORT`
 fn read_var(line: &[u8], mut at: usize) -> Result<Request, ReadError>
     requires { IsPlace line.now at }
     ensures { Answers var_form line.now at result }
 {
     let name = variable(line, &mut at)?;
     expect(line, &mut at, b":")?;
-    expect(line, &mut at, b"int")?;
+    let sort = sort(line, &mut at)?;
     end(line, at)?;
-    let sort = Sort::Int;
     Ok(Request::Edit(Edit::Var(Param { name, sort })))
 }
 
-// `NAME : [ATOM, ATOM]`
+// `SPEC`
 fn read_root(alloc: Global, line: &[u8], mut at: usize) -> Result<Request, ReadError>
     requires { IsPlace line.now at }
     ensures { Answers root_form line.now at result }
 {
-    let name = variable(line, &mut at)?;
-    expect(line, &mut at, b":")?;
-    expect(line, &mut at, b"[")?;
-    let pre = atom(alloc, line, &mut at)?;
-    expect(line, &mut at, b",")?;
-    let post = atom(alloc, line, &mut at)?;
-    expect(line, &mut at, b"]")?;
+    let spec = spec(alloc, line, &mut at)?;
     end(line, at)?;
-    let mut frame = Items::new(alloc);
-    frame.push(name)?;
-    let pre = pre.into_inner();
-    let post = post.into_inner();
-    Ok(Request::Edit(Edit::Root(Spec { frame, pre, post })))
+    Ok(Request::Edit(Edit::Root(spec.into_inner())))
 }
 
 // `main skip`
@@ -86,19 +76,41 @@ fn read_step(alloc: Global, line: &[u8], mut at: usize) -> Result<Request, ReadE
     Ok(Request::Edit(Edit::Step(main_tree(alloc), step)))
 }
 
-// `main NUMBER ax`
+// `main NUMBER CERT`
 fn read_prove(alloc: Global, line: &[u8], mut at: usize) -> Result<Request, ReadError>
     requires { IsPlace line.now at }
     ensures { Answers prove_form line.now at result }
 {
     expect(line, &mut at, b"main")?;
-    let number = number(line, &mut at)?;
-    expect(line, &mut at, b"ax")?;
+    let number = number(line, &mut at, 0, 4294967295)?;
+    let lines = cert(alloc, line, &mut at)?;
     end(line, at)?;
-    let mut lines = Items::new(alloc);
-    lines.push(CertLine::Ax)?;
     let cert = Cert { lines };
     Ok(Request::Edit(Edit::Prove(main_tree(alloc), number, cert)))
+}
+
+// A rule and its arguments.
+fn rule(line: &[u8], at: &mut usize) -> Result<CertLine, ReadError>
+    requires { IsPlace line.now at.old }
+    ensures { Took rule line.now at.old at.new result }
+{
+    expect(line, at, b"ax")?;
+    Ok(CertLine::Ax)
+}
+
+// Lines with semicolons between them.
+fn cert(alloc: Global, line: &[u8], at: &mut usize) -> Result<Items<CertLine>, ReadError>
+    requires { IsPlace line.now at.old }
+    ensures { Took cert line.now at.old at.new result }
+{
+    let mut lines = Items::new(alloc);
+    let first = rule(line, at)?;
+    lines.push(first)?;
+    'lines: while accept(line, at, b";") {
+        let next = rule(line, at)?;
+        lines.push(next)?;
+    }
+    Ok(lines)
 }
 
 fn main_tree(alloc: Global) -> Place

@@ -12,4 +12,5 @@ pub mod Reading
 pub mod Exact
 pub mod TermsApart
 pub mod Endings
-pub mod Stops
+pub mod Outside
+pub mod Looking
