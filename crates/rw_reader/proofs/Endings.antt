@@ -64,12 +64,12 @@ one_token f g here there t e a =
     let s = shortens here t there e in
     open_form f here ∙ ap (token_read f here (read_within (length here))) e ∙ ap (form_read here (λ h. read_within (length here) h there)) a ∙ reads_alike (length here) (length there) g there (omega arith) (omega arith)
 
-end_stuck : (f : Form) (here : List ℕ) → given f ≡ None → ended f here ≡ stops here
-end_stuck f [] e = ap (given_or []) e
+end_stuck : (f : Form) (here : List ℕ) → (here ≡ [] → given f ≡ None) → ended f here ≡ stops here
+end_stuck f [] e = ap (given_or []) (e refl)
 end_stuck f (b ∷ bs) e = refl
 
 -- where a form neither ends nor goes on
-pub stuck_form : (f : Form) (here : List ℕ) → given f ≡ None → ((t : Token) (there : List ℕ) → token_at here ≡ Some (t, there) → after f t ≡ None) → read_form f here ≡ stops here
+pub stuck_form : (f : Form) (here : List ℕ) → (here ≡ [] → given f ≡ None) → ((t : Token) (there : List ℕ) → token_at here ≡ Some (t, there) → after f t ≡ None) → read_form f here ≡ stops here
 stuck_form f here e h = open_form f here ∙ by_token (token_at here) refl
   where
     by_token : (o : Option (Token × List ℕ)) → token_at here ≡ o → token_read f here (read_within (length here)) o ≡ stops here

@@ -10,7 +10,8 @@ use Rattle.rw_syntax.specs.declared.token.Token.{Token as Class}
 use Rattle.rw_syntax.specs.declared.frame.Part.{Part}
 use Rattle.rw_syntax.specs.declared.state.State.{State}
 use Rattle.rw_syntax.specs.Grammar.{Tree, level, fits, IsFormed, part, nests, text as tree_text, Reads}
-use Rattle.rw_syntax.specs.Machine.{wants, step, run_within, advance, finish}
+use Rattle.rw_syntax.specs.Machine.{step, run_within, advance, finish}
+use Rattle.rw_syntax.specs.declared.state.State.TheVariants.{Wants as wants}
 use Rattle.rw_syntax.specs.Spelling.{AreWithin, Spells as Written, CanGoOn as Begun}
 use Rattle.rw_syntax.proofs.Exact.{can_runs, runs_plain, ends_spells, spells_ends, run_last, first_step, some_tokens, nests_length}
 use Rattle.rw_syntax.specs.Stops.{stops_at}
@@ -341,7 +342,7 @@ value_sound : (most goal : ℕ) (done : List Class) (k : Part → Form) (f2 : Fo
 value_sound most goal done k f2 t n ts v g i h o (on c s e r z) q =
     let same : rest_of most goal (done ++ c ∷ []) k ≡ f2 = some_form (sym (ap (gone_on (λ more. rest_of most goal more k) (cond (ends_value t) (option_and_then (λ w. after (k w) t) (value_of most goal done)) None)) z) ∙ q) in
     goes_here most goal done k t c n ts v e (subst (λ x. IsOf x n ts v) (sym same) i)
-value_sound most goal done k f2 t n ts v g i h o (off z no) q =
+value_sound most goal done k f2 t n ts v g i h o (off z never) q =
     let c = chained_form (λ w. after (k w) t) (value_of most goal done) f2 (tested (ends_value t) (option_and_then (λ w. after (k w) t) (value_of most goal done)) f2 (sym (ap (gone_on (λ more. rest_of most goal more k) (cond (ends_value t) (option_and_then (λ w. after (k w) t) (value_of most goal done)) None)) z) ∙ q)) in
     ends_here most goal done k (suc n) (t ∷ ts) v c.0 (value_written most goal done c.0 g c.1) (h c.0 c.2)
 
@@ -393,8 +394,8 @@ pub record Next (f : Form) (t : Token) (n : ℕ) (ts : List Token) (v : Given) :
   pub is : IsOf form n ts v
 
 pick_other : (P : Given → Type 0) (F : Token → Bool) (w : List ℕ) (f g : Form) (t : Token) (n : ℕ) (ts : List Token) (v : Given) → starts g F (text w) ≡ false → starts g F t ≡ true → Next g t n ts v → (b : Bool) → is_text w t ≡ b → Next (either w f g) t n ts v
-pick_other P F w f g t n ts v no yes_so r true z = absurd (true≢false (sym yes_so ∙ ap (starts g F) (text_is w t z) ∙ no))
-pick_other P F w f g t n ts v no yes_so r false z = record { form = r.form; is_after = ap (λ b. cond b (Some f) (after g t)) z ∙ r.is_after; is = r.is }
+pick_other P F w f g t n ts v never yes_so r true z = absurd (true≢false (sym yes_so ∙ ap (starts g F) (text_is w t z) ∙ never))
+pick_other P F w f g t n ts v never yes_so r false z = record { form = r.form; is_after = ap (λ b. cond b (Some f) (after g t)) z ∙ r.is_after; is = r.is }
 
 -- behind a whole value
 ended_none : (most goal : ℕ) (done : List Class) (t : Token) (w : Part) → goal ≤ 9 → Written most goal done w → ends_value t ≡ true → option_and_then (one_more most goal done) (class_of t) ≡ None

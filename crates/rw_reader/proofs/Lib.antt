@@ -9,3 +9,5 @@ pub mod Classes
 pub mod Expressions
 pub mod Plain
 pub mod Requests
+pub mod Values
+pub mod Listing

@@ -6,7 +6,7 @@ use Rattle.rw_reader.specs.declared.request.Request.{Request}
 use Rattle.rw_reader.specs.Tokens.{Token, skip, token_at, front_token, with_next, LeadsTo}
 use Rattle.rw_reader.specs.declared.request.ReadError.{ReadError}
 use Rattle.rw_reader.specs.declared.request.ReadError.TheVariants.{Syntax, Memory}
-use Rattle.rw_reader.specs.Forms.{Given, request, Form, IsOf, request_form}
+use Rattle.rw_reader.specs.Forms.{Given, a_request, Form, IsOf, request_form}
 use Rattle.rw_reader.specs.Progress.{Answers}
 use Rattle.rw_reader.specs.Reading.{Spells, CanGoOn, LineSpells, IsFault, Ending, whole, stops, read_form, Reading, reads, fault, asked, told, reading}
 use Rattle.rw_reader.proofs.Grammar.{some_is}
@@ -41,14 +41,14 @@ goes_one_more before k ks c =
     let a = length-append before (k ∷ ks) in
     let b = length-append before (k ∷ []) in
     let l = c.1 in
-    (c.0, omega arith, ks ++ c.2, c.3, subst (λ x. IsOf request_form c.0 x (request c.3)) (append_assoc before (k ∷ ks) c.2 ∙ sym (append_assoc before (k ∷ []) (ks ++ c.2))) c.4)
+    (c.0, omega arith, ks ++ c.2, c.3, subst (λ x. IsOf request_form c.0 x (a_request c.3)) (append_assoc before (k ∷ ks) c.2 ∙ sym (append_assoc before (k ∷ []) (ks ++ c.2))) c.4)
 
 -- a list of tokens that goes on past a fault
 past : (line : List ℕ) (o : ℕ) (f : IsFault line o) (k : Token) (more : List Token) (end : List ℕ) → LeadsTo f.left (k ∷ more) end → ¬ (CanGoOn (f.before ++ k ∷ more))
 past line o f k more end l c = f.stuck k l.0 l.1 (goes_one_more f.before k more c)
 
 spells_goes : (ts : List Token) (r : Request) → Spells ts r → CanGoOn ts
-spells_goes ts r s = (length ts, omega arith, [], r, subst (λ x. IsOf request_form (length ts) x (request r)) (sym (append-nil ts)) s)
+spells_goes ts r s = (length ts, omega arith, [], r, subst (λ x. IsOf request_form (length ts) x (a_request r)) (sym (append-nil ts)) s)
 
 exclusive : (line : List ℕ) (r : Request) (o : ℕ) → LineSpells line r → IsFault line o → ⊥
 exclusive line r o s f = by_sides (aligned (skip line) f.before s.0 f.left [] f.leads s.1)
@@ -65,11 +65,11 @@ exclusive line r o s f = by_sides (aligned (skip line) f.before s.0 f.left [] f.
     by_sides (longer a) = longer_side a.more a.is a.leads
     by_sides (shorter a) = shorter_side a.more a.is a.leads
 
-given_request : {r q : Request} → request r ≡ request q → r ≡ q
+given_request : {r q : Request} → a_request r ≡ a_request q → r ≡ q
 given_request e = cc
 
 pub one_request : (ts : List Token) (r q : Request) → Spells ts r → Spells ts q → r ≡ q
-one_request ts r q a b = given_request (one IsRequest nothing ts request_form (request r) (request q) requests_keep a b)
+one_request ts r q a b = given_request (one IsRequest nothing ts request_form (a_request r) (a_request q) requests_keep a b)
 
 one_line : (line : List ℕ) (r q : Request) → LineSpells line r → LineSpells line q → r ≡ q
 one_line line r q a b = by_sides (aligned (skip line) a.0 b.0 [] [] a.1 b.1)
@@ -123,7 +123,7 @@ unfolding skip
 skip_least line = omega (arith, length-drop {A = ℕ})
 
 -- what the reading answers
-spelled : (line : List ℕ) (v : Given) → read_form request_form (skip line) ≡ whole v → (r : Request) × (v ≡ request r) × LineSpells line r
+spelled : (line : List ℕ) (v : Given) → read_form request_form (skip line) ≡ whole v → (r : Request) × (v ≡ a_request r) × LineSpells line r
 unfolding read_form
 spelled line v e =
     let x = whole_as IsRequest nothing (length (skip line)) request_form (skip line) v requests_keep e in
@@ -143,8 +143,8 @@ faulty line left e =
       stuck = λ t behind y c.
           let l = length-append x.before (t ∷ []) in
           let m = c.1 in
-          x.stuck t behind y c.0 c.2 (request c.3) (omega arith) (subst (λ z. IsOf request_form c.0 z (request c.3)) (append_assoc x.before (t ∷ []) c.2) c.4);
-      early = λ y r s. x.early y (length x.before) (request r) (omega arith) s;
+          x.stuck t behind y c.0 c.2 (a_request c.3) (omega arith) (subst (λ z. IsOf request_form c.0 z (a_request c.3)) (append_assoc x.before (t ∷ []) c.2) c.4);
+      early = λ y r s. x.early y (length x.before) (a_request r) (omega arith) s;
       place = omega arith;
     }
 

@@ -12,10 +12,10 @@ use Rattle.rw_reader.proofs.Endings.{same_token, open_form, one_token, stuck_for
 use Rattle.rw_reader.specs.Progress.{IsPlace, StopsAt}
 
 pub none_stops : (s : Slot) (here : List ℕ) → token_at here ≡ None → (k : Filled s → Form) → read_form (takes s k) here ≡ stops here
-none_stops s here e k = stuck_form (takes s k) here refl (λ t there z. absurd (cc (e, z)))
+none_stops s here e k = stuck_form (takes s k) here (λ z. refl) (λ t there z. absurd (cc (e, z)))
 
 pub misfit_stops : (s : Slot) (here : List ℕ) (t : Token) (there : List ℕ) → token_at here ≡ Some (t, there) → filled s t ≡ None → (k : Filled s → Form) → read_form (takes s k) here ≡ stops here
-misfit_stops s here t there e f k = stuck_form (takes s k) here refl (λ u other z. let same : t ≡ u = ap (λ x. x.0) (same_token (sym e ∙ z)) in ap (option_map k) (ap (filled s) (sym same) ∙ f))
+misfit_stops s here t there e f k = stuck_form (takes s k) here (λ z. refl) (λ u other z. let same : t ≡ u = ap (λ x. x.0) (same_token (sym e ∙ z)) in ap (option_map k) (ap (filled s) (sym same) ∙ f))
 
 pub fits_goes : (s : Slot) (here : List ℕ) (t : Token) (there : List ℕ) (x : Filled s) → token_at here ≡ Some (t, there) → filled s t ≡ Some x → (k : Filled s → Form) → read_form (takes s k) here ≡ read_form (k x) there
 fits_goes s here t there x e f k = one_token (takes s k) (k x) here there t e (ap (option_map k) f)

@@ -7,29 +7,34 @@ use Rattle.rw_terms.specs.declared.term.Sort.TheVariants as sorts
 use Rattle.rw_terms.specs.declared.term.Formula.{Formula}
 use Rattle.rw_programs.specs.declared.prog.Spec.{Spec}
 use Rattle.rw_sequents.specs.declared.line.CertLine.{CertLine}
-use Rattle.rw_syntax.specs.Machine.{wants, run_within}
+use Rattle.rw_syntax.specs.Machine.{run_within}
+use Rattle.rw_syntax.specs.declared.state.State.TheVariants.{Wants as wants}
 use Rattle.rw_syntax.specs.Grammar.{as_formula}
 use Rattle.rw_reader.specs.declared.request.Request.{Request}
 use Rattle.rw_reader.specs.Tokens.{Token, text}
 use Rattle.rw_reader.specs.Classes.{mark_texts, text_class, class_of}
-use Rattle.rw_reader.specs.Forms.{is_text, Given, request, Form, gives, formula, mark, sort, name_form, name_in, names, frame, bracketed, spec, rule, line_form, line_in, cert, var_form, root_form, step_form, prove_form, request_form}
+use Rattle.rw_reader.specs.Forms.{is_text, Given, a_request, Form, gives, formula, mark, sort, name_form, name_in, names, frame, bracketed, spec, rule, line_form, line_in, cert, var_form, root_form, step_form, prove_form, request_form}
 use Rattle.rw_reader.specs.Reading.{ends_value}
 use Rattle.rw_reader.proofs.Grammar.{text_is, starts, Keeps}
 
 abbrev pub IsRequest : Given → Type 0
-IsRequest v = (r : Request) × (v ≡ request r)
+IsRequest v = (r : Request) × (v ≡ a_request r)
 
 -- nothing follows a request
 abbrev pub nothing : Token → Bool
 nothing t = false
 
+-- what a word's slot says
+abbrev there : Option (Unit {0})
+there = Some tt
+
 -- a word or symbol that ends a value
+marked : (w : List ℕ) (t : Token) → ends_value (text w) ≡ true → (b : Bool) → is_text w t ≡ b → is_some (cond b there None) ≡ true → ends_value t ≡ true
+marked w t e true z s = ap ends_value (text_is w t z) ∙ e
+marked w t e false z s = absurd (true≢false (sym s))
+
 mark_ends : (F : Token → Bool) (w : List ℕ) (f : Form) (t : Token) → ends_value (text w) ≡ true → starts (mark w f) F t ≡ true → ends_value t ≡ true
-mark_ends F w f t e s = go (is_text w t) refl s
-  where
-    go : (b : Bool) → is_text w t ≡ b → is_some (cond b (Some tt) None) ≡ true → ends_value t ≡ true
-    go true z s = ap ends_value (text_is w t z) ∙ e
-    go false z s = absurd (true≢false (sym s))
+mark_ends F w f t e s = marked w t e (is_text w t) refl s
 
 comma_ends : ends_value (text (codes ",")) ≡ true
 unfolding mark_texts text_class class_of
@@ -59,9 +64,19 @@ frame_keeps : (P : Given → Type 0) (F : Token → Bool) (k : List (List ℕ) �
 unfolding frame names name_form Rattle.rw_reader.specs.Forms.is_variable is_name is_reserved reserved
 frame_keeps P F k h = (refl, h [], names_keep P F (λ xs. mark (codes ":") (k xs)) (λ xs. refl) (λ xs. (refl, λ x. h xs)))
 
+second_keeps : (P : Given → Type 0) (F : Token → Bool) (xs : List (List ℕ)) (f : Formula) (k : Spec → Form) → ((s : Spec) → Keeps P F (k s)) → Keeps P F (formula 511 (λ g. mark (codes "]") (k (record { frame = xs; pre = f; post = g }))))
+second_keeps P F xs f k h = formula_keeps P F 511 (λ g. mark (codes "]") (k (record { frame = xs; pre = f; post = g }))) (λ g t. mark_ends F (codes "]") (k (record { frame = xs; pre = f; post = g })) t square_ends) (λ g. (refl, λ z. h (record { frame = xs; pre = f; post = g })))
+
+bracketed_keeps : (P : Given → Type 0) (F : Token → Bool) (xs : List (List ℕ)) (k : Spec → Form) → ((s : Spec) → Keeps P F (k s)) → Keeps P F (bracketed xs k)
+bracketed_keeps P F xs k h = (
+  refl,
+  λ x. formula_keeps P F 511 (λ f. mark (codes ",") (formula 511 (λ g. mark (codes "]") (k (record { frame = xs; pre = f; post = g })))))
+  (λ f t. mark_ends F (codes ",") (formula 511 (λ g. mark (codes "]") (k (record { frame = xs; pre = f; post = g })))) t comma_ends) (λ f. (refl, λ y. second_keeps P F xs f k h)),
+)
+
 spec_keeps : (P : Given → Type 0) (F : Token → Bool) (k : Spec → Form) → ((s : Spec) → Keeps P F (k s)) → Keeps P F (spec k)
 unfolding spec
-spec_keeps P F k h = frame_keeps P F (λ xs. bracketed xs k) (λ xs. (refl, λ x. formula_keeps P F 511 _ (λ f t. mark_ends F (codes ",") _ t comma_ends) (λ f. (refl, λ y. formula_keeps P F 511 _ (λ g t. mark_ends F (codes "]") _ t square_ends) (λ g. (refl, λ z. h (record { frame = xs; pre = f; post = g })))))))
+spec_keeps P F k h = frame_keeps P F (λ xs. bracketed xs k) (λ xs. bracketed_keeps P F xs k h)
 
 cert_keeps : (P : Given → Type 0) (F : Token → Bool) (k : List CertLine → Form) → ((ls : List CertLine) (t : Token) → starts (k ls) F t ≡ true → ends_value t ≡ true) → ((ls : List CertLine) → starts (k ls) F (text (codes ";")) ≡ false) → ((ls : List CertLine) → Keeps P F (k ls)) → Keeps P F (cert k)
 unfolding cert line_form rule

@@ -68,9 +68,9 @@ filled (a_number least most) t = number_within least most t
 
 -- what a form gives: a request, or an item of a list
 pub data Given : Type 0 where
-  request : Request → Given
-  name : List ℕ → Given
-  line : CertLine → Given
+  a_request : Request → Given
+  a_name : List ℕ → Given
+  a_line : CertLine → Given
 
 -- what is still to be read, and what is given then
 pub data Form : Type 0 where
@@ -168,12 +168,12 @@ formula most k = rest_of most 1 [] (λ v. k (as_formula v))
 
 -- a variable as an item
 unfoldable pub name_form : Form
-name_form = takes a_variable (λ x. gives (name x))
+name_form = takes a_variable (λ x. gives (a_name x))
 
 abbrev pub name_in : Given → List ℕ
-name_in (request r) = []
-name_in (name x) = x
-name_in (line l) = []
+name_in (a_request r) = []
+name_in (a_name x) = x
+name_in (a_line l) = []
 
 -- NAME { , NAME }
 unfoldable pub names : (List (List ℕ) → Form) → Form
@@ -196,15 +196,15 @@ main_tree = record { tree = trees.Main; path = record { kids = [] } }
 
 -- NAME : SORT
 unfoldable pub var_form : Form
-var_form = takes a_variable (λ x. mark (codes ":") (sort (λ s. gives (request (requests.Edit (edits.Var (record { name = x; sort = s })))))))
+var_form = takes a_variable (λ x. mark (codes ":") (sort (λ s. gives (a_request (requests.Edit (edits.Var (record { name = x; sort = s })))))))
 
 -- SPEC
 unfoldable pub root_form : Form
-root_form = spec (λ s. gives (request (requests.Edit (edits.Root s))))
+root_form = spec (λ s. gives (a_request (requests.Edit (edits.Root s))))
 
 -- main skip
 unfoldable pub step_form : Form
-step_form = mark (codes "main") (mark (codes "skip") (gives (request (requests.Edit (edits.Step main_tree (steps.Basic laws.Skip))))))
+step_form = mark (codes "main") (mark (codes "skip") (gives (a_request (requests.Edit (edits.Step main_tree (steps.Basic laws.Skip))))))
 
 -- a rule and its arguments
 unfoldable pub rule : (CertLine → Form) → Form
@@ -212,12 +212,12 @@ rule k = mark (codes "ax") (k lines.Ax)
 
 -- a line of a certificate as an item
 unfoldable pub line_form : Form
-line_form = rule (λ l. gives (line l))
+line_form = rule (λ l. gives (a_line l))
 
 abbrev pub line_in : Given → CertLine
-line_in (request r) = lines.Ax
-line_in (name x) = lines.Ax
-line_in (line l) = l
+line_in (a_request r) = lines.Ax
+line_in (a_name x) = lines.Ax
+line_in (a_line l) = l
 
 -- LINE { ; LINE }
 unfoldable pub cert : (List CertLine → Form) → Form
@@ -225,8 +225,8 @@ cert k = many line_form (codes ";") (λ gs. k (map line_in gs))
 
 -- main NUMBER CERT
 unfoldable pub prove_form : Form
-prove_form = mark (codes "main") (takes (a_number 0 4294967295) (λ n. cert (λ ls. gives (request (requests.Edit (edits.Prove main_tree n (record { lines = ls })))))))
+prove_form = mark (codes "main") (takes (a_number 0 4294967295) (λ n. cert (λ ls. gives (a_request (requests.Edit (edits.Prove main_tree n (record { lines = ls })))))))
 
 -- every request
 unfoldable pub request_form : Form
-request_form = either (codes "var") var_form (either (codes "root") root_form (either (codes "step") step_form (either (codes "prove") prove_form (mark (codes "status") (gives (request requests.Status))))))
+request_form = either (codes "var") var_form (either (codes "root") root_form (either (codes "step") step_form (either (codes "prove") prove_form (mark (codes "status") (gives (a_request requests.Status))))))

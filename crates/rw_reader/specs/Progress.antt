@@ -3,7 +3,7 @@ use Rattle.std.specs.Prelude.{◌≡◌, ℕ, ◌≤◌, ◌<◌, ◌^◌, Bool,
 use Rattle.rw_reader.specs.declared.request.Request.{Request}
 use Rattle.rw_reader.specs.declared.request.ReadError.{ReadError}
 use Rattle.rw_reader.specs.declared.request.ReadError.TheVariants.{Syntax, Memory}
-use Rattle.rw_reader.specs.Forms.{Given, request, Form, gives, either}
+use Rattle.rw_reader.specs.Forms.{Given, a_request, Form, gives, either}
 use Rattle.rw_syntax.specs.declared.token.Token.{Token as Class}
 use Rattle.rw_syntax.specs.declared.state.State.{State}
 use Rattle.rw_syntax.specs.Stops.{stops_at, is_inside}
@@ -37,7 +37,7 @@ Ended line at (Err e) = (v : Given) → StopsAt line e (read_form (gives v) (dro
 
 -- a form is read to its end
 abbrev pub Answers : Form → List ℕ → ℕ → Result Request ReadError → Type 0
-Answers f line at (Ok r) = read_form f (drop at line) ≡ whole (request r)
+Answers f line at (Ok r) = read_form f (drop at line) ≡ whole (a_request r)
 Answers f line at (Err e) = StopsAt line e (read_form f (drop at line))
 
 -- a token of terms and formulas stands at a place

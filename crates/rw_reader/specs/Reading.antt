@@ -2,20 +2,21 @@
 use Rattle.std.specs.Prelude.{◌≡◌, ℕ, zero, suc, ◌+◌, ◌-◌, ◌≤◌, Bool, true, cond, List, [], ◌∷◌, ◌++◌, length, Option, Some, None, option_map, option_and_then}
 use Rattle.rw_syntax.specs.declared.token.Token.{Token as Class}
 use Rattle.rw_syntax.specs.declared.frame.Part.{Part}
-use Rattle.rw_syntax.specs.Machine.{wants, run_within, finish}
+use Rattle.rw_syntax.specs.Machine.{run_within, finish}
+use Rattle.rw_syntax.specs.declared.state.State.TheVariants.{Wants as wants}
 use Rattle.rw_syntax.specs.Stops.{stops_at}
 use Rattle.rw_reader.specs.declared.request.Request.{Request}
 use Rattle.rw_reader.specs.Tokens.{Token, skip, token_at, LeadsTo}
 use Rattle.rw_reader.specs.Classes.{class_of}
-use Rattle.rw_reader.specs.Forms.{filled, is_text, Given, request, name, line, Form, gives, takes, either, rest_of, more_of, followed, IsOf, request_form}
+use Rattle.rw_reader.specs.Forms.{filled, is_text, Given, a_request, a_name, a_line, Form, gives, takes, either, rest_of, more_of, followed, IsOf, request_form}
 
 -- tokens spell a request, with a nest within 512
 abbrev pub Spells : List Token → Request → Type 0
-Spells ts r = IsOf request_form (length ts) ts (request r)
+Spells ts r = IsOf request_form (length ts) ts (a_request r)
 
 -- some tokens that begin with these spell a request, with a nest within 512 at these
 abbrev pub CanGoOn : List Token → Type 0
-CanGoOn ts = (n : ℕ) × (length ts ≤ n) × (rest : List Token) × (r : Request) × IsOf request_form n (ts ++ rest) (request r)
+CanGoOn ts = (n : ℕ) × (length ts ≤ n) × (rest : List Token) × (r : Request) × IsOf request_form n (ts ++ rest) (a_request r)
 
 -- a line's tokens spell a request
 abbrev pub LineSpells : List ℕ → Request → Type 0
@@ -108,9 +109,9 @@ pub data Reading : Type 0 where
   fault : ℕ → Reading
 
 abbrev pub asked : List ℕ → Given → Reading
-asked here (request r) = reads r
-asked here (name x) = fault (length here)
-asked here (line l) = fault (length here)
+asked here (a_request r) = reads r
+asked here (a_name x) = fault (length here)
+asked here (a_line l) = fault (length here)
 
 abbrev pub told : List ℕ → Ending → Reading
 told here (whole v) = asked here v

@@ -1,6 +1,6 @@
 //! Reads a request.
 
-ghost use Rattle.std.specs.Prelude.{◌≡◌, ℕ, ◌<◌, ◌^◌, ◌⊎◌, length, IfOk, IfErr};
+ghost use Rattle.std.specs.Prelude.{◌≡◌, ℕ, ◌≤◌, ◌<◌, ◌^◌, ◌⊎◌, length, IfOk, IfErr};
 ghost use Rattle.rw_reader.specs.Forms.{main_tree, var_form, root_form, step_form, prove_form, rule, cert};
 ghost use Rattle.rw_reader.specs.Reading.{reading, reads, fault};
 ghost use Rattle.rw_reader.specs.Progress.{IsPlace, Took, Answers};
@@ -92,7 +92,8 @@ fn read_prove(alloc: Global, line: &[u8], mut at: usize) -> Result<Request, Read
 // A rule and its arguments.
 fn rule(line: &[u8], at: &mut usize) -> Result<CertLine, ReadError>
     requires { IsPlace line.now at.old }
-    ensures { Took rule line.now at.old at.new result }
+    ensures took { Took rule line.now at.old at.new result }
+    ensures on { at.old ≤ at.new }
 {
     expect(line, at, b"ax")?;
     Ok(CertLine::Ax)

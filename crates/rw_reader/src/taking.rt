@@ -1,6 +1,6 @@
 //! The parts of requests, read from a place on.
 
-ghost use Rattle.std.specs.Prelude.{◌≡◌, ℕ, ◌≤◌, ◌<◌, ◌^◌, length, IfOk, IfSome};
+ghost use Rattle.std.specs.Prelude.{◌≡◌, ℕ, ◌≤◌, ◌<◌, ◌^◌, length, IfOk, IfSome, IsTrue};
 ghost use Rattle.rw_reader.specs.Forms.{is_text, is_lower, variable_of, number_within, takes, exactly, a_variable, a_number, sort, names};
 ghost use Rattle.rw_reader.specs.Seen.{seen};
 ghost use Rattle.rw_reader.specs.Progress.{IsPlace, Took, Chose, Ended};
@@ -24,7 +24,8 @@ pub fn fault(at: usize) -> ReadError
 /// Reads this word or symbol.
 pub fn expect(line: &[u8], at: &mut usize, text: &[u8]) -> Result<(), ReadError>
     requires { IsPlace line.now at.old }
-    ensures { Took (takes (exactly text.now)) line.now at.old at.new result }
+    ensures took { Took (takes (exactly text.now)) line.now at.old at.new result }
+    ensures on { at.old ≤ at.new }
 {
     match token_at(line, *at) {
         Some((token, next)) => {
@@ -41,7 +42,8 @@ pub fn expect(line: &[u8], at: &mut usize, text: &[u8]) -> Result<(), ReadError>
 /// Reads this word or symbol, if it stands there.
 pub fn accept(line: &[u8], at: &mut usize, text: &[u8]) -> bool
     requires { IsPlace line.now at.old }
-    ensures { Chose text.now line.now at.old at.new result }
+    ensures chose { Chose text.now line.now at.old at.new result }
+    ensures on { IsTrue result → at.old < at.new }
 {
     match token_at(line, *at) {
         Some((token, next)) => {
@@ -58,7 +60,8 @@ pub fn accept(line: &[u8], at: &mut usize, text: &[u8]) -> bool
 /// Reads a variable's name.
 pub fn variable(line: &[u8], at: &mut usize) -> Result<Name, ReadError>
     requires { IsPlace line.now at.old }
-    ensures { Took (takes a_variable) line.now at.old at.new result }
+    ensures took { Took (takes a_variable) line.now at.old at.new result }
+    ensures on { at.old ≤ at.new }
 {
     match token_at(line, *at) {
         Some((token, next)) => match variable_of(token) {
