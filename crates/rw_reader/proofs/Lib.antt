@@ -11,3 +11,5 @@ pub mod Plain
 pub mod Requests
 pub mod Values
 pub mod Listing
+pub mod Made
+pub mod ListItems

@@ -53,7 +53,7 @@ unfolding sort
 sort_keeps P F k h = (refl, h sorts.Int, (refl, λ x. (refl, λ n. h (sorts.Array n))))
 
 formula_keeps : (P : Given → Type 0) (F : Token → Bool) (most : ℕ) (k : Formula → Form) → ((f : Formula) (t : Token) → starts (k f) F t ≡ true → ends_value t ≡ true) → ((f : Formula) → Keeps P F (k f)) → Keeps P F (formula most k)
-unfolding run_within
+unfolding run_within formula
 formula_keeps P F most k e h = (omega arith, (wants [], refl), (λ v t. e (as_formula v) t), (λ v. h (as_formula v)))
 
 names_keep : (P : Given → Type 0) (F : Token → Bool) (k : List (List ℕ) → Form) → ((xs : List (List ℕ)) → starts (k xs) F (text (codes ",")) ≡ false) → ((xs : List (List ℕ)) → Keeps P F (k xs)) → Keeps P F (names k)

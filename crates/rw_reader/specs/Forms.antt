@@ -163,7 +163,7 @@ unfoldable pub sort : (Sort → Form) → Form
 sort k = either (codes "int") (k sorts.Int) (mark (codes "array") (takes (a_number 1 1024) (λ n. k (sorts.Array n))))
 
 -- a formula whose own nest is within `most`
-abbrev pub formula : ℕ → (Formula → Form) → Form
+unfoldable pub formula : ℕ → (Formula → Form) → Form
 formula most k = rest_of most 1 [] (λ v. k (as_formula v))
 
 -- a variable as an item

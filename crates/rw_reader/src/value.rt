@@ -80,6 +80,7 @@ fn part(alloc: Global, most: u64, goal: u8, line: &[u8], at: &mut usize) -> Resu
 }
 
 /// Reads a formula whose own nest is within `most`.
+#[tactic(auto, unfolding(crate::specs::Forms::formula))]
 pub fn formula(
     alloc: Global,
     most: u64,

@@ -1,6 +1,7 @@
-use Rattle.std.proofs.Common.{cond, ◌∙◌, sym, ap, drop, Some, None}
+use Rattle.std.proofs.Common.{arith, cond, ◌∙◌, sym, ap, drop, Some, None}
 use Rattle.rw_reader.specs.Forms.{exactly, takes}
 use Rattle.rw_reader.specs.Seen.{seen}
+use Rattle.rw_reader.proofs.Shorter.{moves_on}
 use Rattle.rw_reader.proofs.Parts.{none_stops, misfit_stops, fits_goes, stops_here, moved}
 use Rattle.rw_reader.proofs.taking.expect.Goals as goal
 
@@ -12,3 +13,6 @@ returns-then-not-is_text-clause-took c = stops_here (takes (exactly c.args.text.
 
 pub returns-else-not-is_text-clause-took : goal.returns-else-not-is_text-clause-took
 returns-else-not-is_text-clause-took c = (moved c.args.line.now c.args.at.now c.in-Some.next c.requires c.in-Some.ensures.0, fits_goes (exactly c.args.text.now) (drop c.args.at.now c.args.line.now) (seen c.in-Some.token) _ tt c.in-Some.ensures.1 (ap (λ b. cond b (Some tt) None) (sym c.is_text.ensures ∙ c.if-not-is_text.false)))
+
+pub returns-else-not-is_text-clause-on : goal.returns-else-not-is_text-clause-on
+returns-else-not-is_text-clause-on c = let h = moves_on c.args.line.now c.args.at.now c.in-Some.next (seen c.in-Some.token) c.in-Some.ensures.1 in omega arith
