@@ -71,7 +71,7 @@ bracketed_keeps : (P : Given → Type 0) (F : Token → Bool) (xs : List (List �
 bracketed_keeps P F xs k h = (
   refl,
   λ x. formula_keeps P F 511 (λ f. mark (codes ",") (formula 511 (λ g. mark (codes "]") (k (record { frame = xs; pre = f; post = g })))))
-  (λ f t. mark_ends F (codes ",") (formula 511 (λ g. mark (codes "]") (k (record { frame = xs; pre = f; post = g })))) t comma_ends) (λ f. (refl, λ y. second_keeps P F xs f k h)),
+      (λ f t. mark_ends F (codes ",") (formula 511 (λ g. mark (codes "]") (k (record { frame = xs; pre = f; post = g })))) t comma_ends) (λ f. (refl, λ y. second_keeps P F xs f k h)),
 )
 
 spec_keeps : (P : Given → Type 0) (F : Token → Bool) (k : Spec → Form) → ((s : Spec) → Keeps P F (k s)) → Keeps P F (spec k)

@@ -94,9 +94,9 @@ refuses most goal line start at s p o e i g a n is within k =
     let t = st.1 in
     let none : run_within most goal (wants []) (i.done ++ p.0 ∷ []) ≡ None = run_last most goal (wants []) i.done p.0 s i.runs ∙ sym (advance_is most goal s p.0) ∙ sym a ∙ n in
     let here : after (rest_of most goal i.done k) t.0 ≡ None =
-        ap (λ x. gone_on (λ more. rest_of most goal more k) (cond (ends_class x) (option_and_then (λ v. after (k v) t.0) (value_of most goal i.done)) None) (option_and_then (one_more most goal i.done) x)) t.2 ∙
-        ap (gone_on (λ more. rest_of most goal more k) (cond (stops_at p.0) (option_and_then (λ v. after (k v) t.0) (value_of most goal i.done)) None)) (ap (option_map (λ _. i.done ++ p.0 ∷ [])) none) ∙
-        refused_none most goal i.done s k t.0 p.0 i.runs g.1 in
+    ap (λ x. gone_on (λ more. rest_of most goal more k) (cond (ends_class x) (option_and_then (λ v. after (k v) t.0) (value_of most goal i.done)) None) (option_and_then (one_more most goal i.done) x)) t.2 ∙
+    ap (gone_on (λ more. rest_of most goal more k) (cond (stops_at p.0) (option_and_then (λ v. after (k v) t.0) (value_of most goal i.done)) None)) (ap (option_map (λ _. i.done ++ p.0 ∷ [])) none) ∙
+    refused_none most goal i.done s k t.0 p.0 i.runs g.1 in
     stopped line at e most goal start k is within (i.same k ∙ stuck_form (rest_of most goal i.done k) (drop at line) (λ z. absurd (none_at_end (drop at line) t.0 (drop p.1 line) z t.1)) (λ u there z. let same : t.0 ≡ u = ap (λ x. x.0) (same_token (sym t.1 ∙ z)) in subst (λ x. after (rest_of most goal i.done k) x ≡ None) same here))
 
 -- the nest behind a token

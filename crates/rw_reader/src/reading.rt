@@ -165,7 +165,6 @@ mod tests {
                 (b"\tstatus\r", None),
                 (b"frob", Some(0)),
                 (b"  frob", Some(2)),
-                (b"var x : array 4", Some(8)),
                 (b"root x:[true]", Some(12)),
                 (b"prove main 4294967296 ax", Some(11)),
                 (b"prove main 1", Some(12)),
@@ -173,6 +172,82 @@ mod tests {
                 (b"status x", Some(7)),
             ],
         )
+    }
+
+    #[test]
+    fn sorts_have_lengths_from_1_to_1024(rt: HostRuntime) -> Result<(), Fail> {
+        agree(
+            &rt,
+            rt.alloc(),
+            &[
+                (b"var x : array 4", None),
+                (b"var x : array 1024", None),
+                (b"var x : array 0", Some(14)),
+                (b"var x : array 1025", Some(14)),
+                (b"var x : array", Some(13)),
+                (b"var x : array n", Some(14)),
+                (b"var x : bool", Some(8)),
+            ],
+        )
+    }
+
+    #[test]
+    fn specifications_are_read_or_have_their_fault(rt: HostRuntime) -> Result<(), Fail> {
+        agree(
+            &rt,
+            rt.alloc(),
+            &[
+                (b"root x,y:[not (x = 1 or y > 2), x = y0 and y = x0]", None),
+                (
+                    b"root a:[forall i:int . 0 <= a[i], exists _1:array 3 . put(a, 1, 2) = _1]",
+                    None,
+                ),
+                (b"root :[true, P(x, 1) => false]", None),
+                (b"root [true, true]", Some(5)),
+                (b"root x,:[true, true]", Some(7)),
+                (b"root x y:[true, true]", Some(7)),
+                (b"root X:[true, true]", Some(5)),
+                (b"root x:[x = 1 = 2, true]", Some(14)),
+                (b"root x:[put(a, 1), true]", Some(16)),
+                (b"root x:[(true, true]", Some(13)),
+                (b"root x:[true), true]", Some(12)),
+                (b"root x:[forall x:int . _2 = 0, true]", Some(23)),
+                (b"root x:[x, true]", Some(9)),
+                (b"root x:[true, true", Some(18)),
+                (b"root x:[true, true] x", Some(20)),
+            ],
+        )
+    }
+
+    #[test]
+    fn certificates_are_lines_with_semicolons(rt: HostRuntime) -> Result<(), Fail> {
+        agree(
+            &rt,
+            rt.alloc(),
+            &[
+                (b"prove main 1 ax ; ax", None),
+                (b"prove main 1 ax ;", Some(17)),
+                (b"prove main 1 ax , ax", Some(16)),
+                (b"prove main 1 ax ax", Some(16)),
+            ],
+        )
+    }
+
+    // A bracket of the request and so many in its first formula.
+    fn bracketed(alloc: Global, times: usize) -> Result<Vec<u8>, Fail> {
+        let mut line = Vec::new(alloc);
+        line.extend_from_slice(b"root x:[")?;
+        for _ in 0..times {
+            line.extend_from_slice(b"(")?;
+        }
+        Ok(line)
+    }
+
+    #[test]
+    fn brackets_of_a_request_count_in_the_nest(rt: HostRuntime) -> Result<(), Fail> {
+        let most = bracketed(rt.alloc(), 511)?;
+        let past = bracketed(rt.alloc(), 512)?;
+        agree(&rt, rt.alloc(), &[(&most, Some(519)), (&past, Some(519))])
     }
 
     #[test]
