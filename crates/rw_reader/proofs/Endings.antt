@@ -1,6 +1,5 @@
 -- Reading token by token, and what its ending says of the tokens.
-use Rattle.std.proofs.Common.{◌≡◌, ℕ, zero, suc, ◌≤◌, ◌<◌, Bool, true, false, cond, List, [], ◌∷◌, ◌++◌, length, Option, Some, None, refl, sym, ap, ◌∙◌, subst, arith}
-use Rattle.std.specs.Prelude.{option_map}
+use Rattle.std.proofs.Common.{◌≡◌, ℕ, zero, suc, ◌≤◌, ◌<◌, Bool, List, [], ◌∷◌, ◌++◌, length, Option, Some, None, refl, sym, ap, ◌∙◌, subst, arith}
 use Rattle.rw_reader.specs.Tokens.{Token, token_at, front_token, LeadsTo}
 use Rattle.rw_reader.specs.Forms.{Given, Form, IsOf}
 use Rattle.rw_reader.specs.Reading.{after, given, Ending, whole, stops, given_or, ended, form_read, token_read, read_within, read_form}

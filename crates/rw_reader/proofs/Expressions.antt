@@ -1,5 +1,5 @@
 -- What the reader's loop keeps, what it answers at its exits, and that these exclude one another.
-use Rattle.std.proofs.Common.{◌≡◌, ℕ, zero, suc, ◌+◌, ◌-◌, ◌≤◌, ◌<◌, ◌⊎◌, List, [], ◌∷◌, ◌++◌, length, drop, take, Option, Some, None, refl, sym, ap, ◌∙◌, subst, arith, append-nil, append_assoc, inl, inr, length-drop}
+use Rattle.std.proofs.Common.{◌≡◌, ℕ, ◌+◌, ◌-◌, ◌≤◌, ◌<◌, ◌⊎◌, List, [], ◌∷◌, ◌++◌, length, drop, Option, Some, None, refl, sym, ap, ◌∙◌, subst, arith, append-nil, append_assoc, inl, inr, length-drop}
 use Rattle.std.proofs.lemmas.List.{drop_all}
 use Rattle.rw_reader.specs.declared.request.ReadError.{ReadError}
 use Rattle.rw_reader.specs.declared.request.ReadError.TheVariants as read_error
@@ -10,7 +10,7 @@ use Rattle.rw_syntax.specs.declared.state.State.{State}
 use Rattle.rw_syntax.specs.declared.state.State.TheVariants.{Wants as wants}
 use Rattle.rw_syntax.specs.Machine.{advance, run_within, finish}
 use Rattle.rw_syntax.specs.Steps.{advance_shut, finish_shut}
-use Rattle.rw_syntax.specs.Spelling.{AreWithin, Spells, CanGoOn}
+use Rattle.rw_syntax.specs.Spelling.{Spells, CanGoOn}
 use Rattle.rw_syntax.proofs.Exact.{ends_spells, runs_can, one_value, run_last, refused, no_value}
 use Rattle.rw_syntax.proofs.TermsApart.{terms_only, formulas_only}
 use Rattle.rw_terms.specs.declared.term.Term.{Term}

@@ -1,6 +1,6 @@
 -- Forms token by token: what is left of a form behind a token is met exactly by what stands behind that token in the
 -- form, and every form that keeps its choices apart is met.
-use Rattle.std.proofs.Common.{◌≡◌, ℕ, zero, suc, ◌+◌, ◌≤◌, Bool, true, false, cond, List, [], ◌∷◌, ◌++◌, length, take, Option, Some, None, IsTrue, refl, sym, ap, ◌∙◌, subst, arith, true≢false, append_assoc, append-nil, ◌⊎◌, inl, inr}
+use Rattle.std.proofs.Common.{◌≡◌, ℕ, zero, suc, ◌+◌, ◌≤◌, Bool, true, false, cond, List, [], ◌∷◌, ◌++◌, length, take, Option, Some, None, IsTrue, refl, sym, ap, ◌∙◌, subst, arith, true≢false, append_assoc, append-nil, inl, inr}
 use Rattle.std.specs.Prelude.{◌||◌, ◌&&◌, is_some, codes, leb, option_map, option_and_then}
 use Rattle.std.proofs.lemmas.Slice.Eq.{bytes_eq-Decides}
 use Rattle.std.proofs.lemmas.List.{take_all}
@@ -10,15 +10,14 @@ use Rattle.rw_syntax.specs.declared.token.Token.{Token as Class}
 use Rattle.rw_syntax.specs.declared.frame.Part.{Part}
 use Rattle.rw_syntax.specs.declared.state.State.{State}
 use Rattle.rw_syntax.specs.Grammar.{Tree, level, fits, IsFormed, part, nests, text as tree_text, Reads}
-use Rattle.rw_syntax.specs.Machine.{step, run_within, advance, finish}
+use Rattle.rw_syntax.specs.Machine.{step, run_within, finish}
 use Rattle.rw_syntax.specs.declared.state.State.TheVariants.{Wants as wants}
 use Rattle.rw_syntax.specs.Spelling.{AreWithin, Spells as Written, CanGoOn as Begun}
 use Rattle.rw_syntax.proofs.Exact.{can_runs, runs_plain, ends_spells, spells_ends, run_last, first_step, some_tokens, nests_length}
-use Rattle.rw_syntax.specs.Stops.{stops_at}
 use Rattle.rw_syntax.proofs.Outside.{advance_stops}
 use Rattle.rw_reader.specs.Tokens.{Token, text, number, binder}
 use Rattle.rw_reader.specs.Classes.{class_of, AreClasses}
-use Rattle.rw_reader.specs.Forms.{Slot, exactly, a_variable, a_number, Filled, filled, is_text, is_variable, Given, Form, gives, takes, either, rest_of, more_of, followed, fewer, behind, Follows, Spans, AreItems, Lists, IsOf}
+use Rattle.rw_reader.specs.Forms.{Slot, exactly, a_variable, a_number, Filled, filled, is_text, is_variable, Given, Form, gives, takes, either, rest_of, more_of, followed, fewer, behind, AreItems, IsOf}
 use Rattle.rw_reader.specs.Reading.{value_of, one_more, ends_class, ends_value, gone_on, after, given}
 use Rattle.rw_reader.proofs.Plain.{plain_tokens}
 

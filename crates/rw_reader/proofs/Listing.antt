@@ -1,10 +1,9 @@
 -- Lists of items: each item is read as a part of a form, and more of them behind a separator.
-use Rattle.std.proofs.Common.{◌≡◌, ℕ, Bool, true, false, cond, List, [], ◌∷◌, ◌++◌, map, length, drop, refl, sym, ap, ◌∙◌, subst}
-use Rattle.std.specs.Prelude.{Ok, Err}
+use Rattle.std.proofs.Common.{◌≡◌, ℕ, true, false, cond, List, [], ◌∷◌, ◌++◌, map, drop, refl, ap, ◌∙◌}
 use Rattle.rw_reader.specs.declared.request.ReadError.{ReadError}
 use Rattle.rw_reader.specs.Forms.{Given, Form, more_of, either, followed, many}
 use Rattle.rw_reader.specs.Reading.{read_form}
-use Rattle.rw_reader.specs.Progress.{StopsAt, Took, Chose}
+use Rattle.rw_reader.specs.Progress.{StopsAt}
 use Rattle.rw_reader.proofs.Endings.{alike}
 use Rattle.rw_reader.proofs.Parts.{carried}
 

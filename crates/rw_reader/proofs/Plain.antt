@@ -1,7 +1,6 @@
 -- Tokens that hold no word are tokens of a line.
-use Rattle.std.proofs.Common.{◌≡◌, Bool, true, false, List, [], ◌∷◌, Option, Some, None, IsTrue, refl, sym, true≢false}
+use Rattle.std.proofs.Common.{◌≡◌, true, false, List, [], ◌∷◌, Some, IsTrue, refl, sym, true≢false}
 use Rattle.std.specs.Prelude.{codes}
-use Rattle.rw_terms.specs.Names.{is_name}
 use Rattle.rw_syntax.specs.declared.token.Infix.TheVariants as infixes
 use Rattle.rw_syntax.specs.declared.token.Infix.{Infix}
 use Rattle.rw_syntax.specs.declared.token.Quantifier.TheVariants as quantifiers

@@ -1,5 +1,5 @@
 -- The forms of requests keep their choices apart.
-use Rattle.std.proofs.Common.{◌≡◌, ℕ, Bool, true, false, cond, List, [], ◌∷◌, map, Option, Some, None, refl, sym, ap, ◌∙◌, subst, arith, true≢false}
+use Rattle.std.proofs.Common.{◌≡◌, ℕ, Bool, true, false, cond, List, [], map, Option, Some, None, refl, sym, ap, ◌∙◌, arith, true≢false}
 use Rattle.std.specs.Prelude.{codes, is_some}
 use Rattle.rw_terms.specs.Names.{is_name, is_reserved, reserved}
 use Rattle.rw_terms.specs.declared.term.Sort.{Sort}

@@ -1,5 +1,5 @@
 -- A token takes bytes, so that reading ends.
-use Rattle.std.proofs.Common.{◌≡◌, ℕ, suc, ◌+◌, ◌-◌, ◌≤◌, ◌<◌, Bool, true, false, cond, List, [], ◌∷◌, length, drop, take, Option, Some, None, refl, sym, ap, ◌∙◌, arith, length-drop}
+use Rattle.std.proofs.Common.{◌≡◌, ℕ, ◌+◌, ◌≤◌, ◌<◌, Bool, true, false, cond, List, [], ◌∷◌, length, drop, take, Option, Some, None, refl, ap, arith, length-drop}
 use Rattle.std.specs.Prelude.{leb, eqb, ◌||◌, option_map}
 use Rattle.std.specs.List.{prefix_len}
 use Rattle.rw_terms.specs.Names.{is_letter, is_digit, goes_on}

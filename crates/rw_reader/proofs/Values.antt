@@ -12,11 +12,11 @@ use Rattle.rw_syntax.proofs.Exact.{run_last}
 use Rattle.rw_syntax.proofs.Outside.{advance_out, finish_inside}
 use Rattle.rw_reader.specs.declared.request.ReadError.{ReadError}
 use Rattle.rw_reader.specs.declared.request.ReadError.TheVariants.{Syntax}
-use Rattle.rw_reader.specs.Tokens.{Token, token_at}
+use Rattle.rw_reader.specs.Tokens.{Token}
 use Rattle.rw_reader.specs.Classes.{class_of}
 use Rattle.rw_reader.specs.Forms.{Form, rest_of}
 use Rattle.rw_reader.specs.Reading.{value_of, one_more, ends_class, ends_value, gone_on, after, given, stops, read_form}
-use Rattle.rw_reader.specs.Progress.{IsPlace, StopsAt, Took, StandsAt, NoClass, GoesAt, EndsAs, EndsAt}
+use Rattle.rw_reader.specs.Progress.{StopsAt, StandsAt, GoesAt, EndsAs, EndsAt}
 use Rattle.rw_reader.proofs.Endings.{same_token, none_at_end, one_token, stuck_form, alike}
 
 -- what was read of a value

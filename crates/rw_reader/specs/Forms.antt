@@ -1,5 +1,5 @@
 -- The grammar of requests: a request is of a form, which says what stands where. A new request is a new form.
-use Rattle.std.specs.Prelude.{◌≡◌, ℕ, zero, suc, ◌+◌, ◌≤◌, Bool, true, false, ◌&&◌, cond, leb, List, [], ◌∷◌, ◌++◌, length, map, take, Option, Some, None, IsTrue, codes, bytes_eq, ◌⊎◌}
+use Rattle.std.specs.Prelude.{◌≡◌, ℕ, zero, suc, ◌+◌, Bool, false, ◌&&◌, cond, leb, List, [], ◌∷◌, ◌++◌, length, map, take, Option, Some, None, IsTrue, codes, bytes_eq, ◌⊎◌}
 use Rattle.rw_terms.specs.Names.{is_name}
 use Rattle.rw_terms.specs.declared.term.Sort.{Sort}
 use Rattle.rw_terms.specs.declared.term.Sort.TheVariants as sorts

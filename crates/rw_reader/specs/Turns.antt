@@ -1,5 +1,5 @@
 -- One turn of the reader's loop.
-use Rattle.std.specs.Prelude.{◌≡◌, ℕ, List, Option, Some, None, ◌⊎◌}
+use Rattle.std.specs.Prelude.{◌≡◌, ℕ, List, Option, Some, None}
 use Rattle.rw_syntax.specs.declared.token.Token.{Token as Class}
 use Rattle.rw_syntax.specs.declared.state.State.{State}
 use Rattle.rw_syntax.specs.Steps.{advance_shut}

@@ -1,7 +1,5 @@
-use Rattle.std.proofs.Common.{◌∙◌, ap, sym, drop, [], ◌∷◌, ◌++◌}
 use Rattle.std.proofs.lemmas.Result.{err_from_is_err_and}
 use Rattle.rw_reader.specs.Forms.{rule}
-use Rattle.rw_reader.proofs.Parts.{carried}
 use Rattle.rw_reader.proofs.reading.rule.Goals as goal
 
 pub returns-in_err-expect-clause-took : goal.returns-in_err-expect-clause-took
