@@ -1,133 +1,215 @@
--- What the reading of a form says of its tokens.
-use Rattle.std.proofs.Common.{◌≡◌, ℕ, Bool, true, false, cond, List, [], ◌∷◌, ◌++◌, Option, Some, None, refl, sym, ap, ◌∙◌, subst, true≢false, inl, inr}
-use Rattle.rw_reader.specs.declared.request.Request.{Request}
-use Rattle.rw_reader.specs.Tokens.{Token, text, token_at, LeadsTo}
-use Rattle.rw_reader.specs.Forms.{Slot, Filled, filled, is_text, Form, gives, takes, either, IsOf}
-use Rattle.rw_reader.specs.Reading.{whole, stops, fitted, slot_read, choice_read, read_form}
-use Rattle.rw_reader.proofs.Grammar.{some_is, text_is, is_text_own, begins, Keeps, apart, Goes, met}
+-- Reading token by token, and what its ending says of the tokens.
+use Rattle.std.proofs.Common.{◌≡◌, ℕ, zero, suc, ◌≤◌, ◌<◌, Bool, List, [], ◌∷◌, ◌++◌, length, Option, Some, None, refl, sym, ap, ◌∙◌, subst, arith}
+use Rattle.rw_reader.specs.Tokens.{Token, token_at, front_token, LeadsTo}
+use Rattle.rw_reader.specs.Forms.{Given, Form, IsOf}
+use Rattle.rw_reader.specs.Reading.{after, given, Ending, whole, stops, given_or, ended, form_read, token_read, read_within, read_form}
+use Rattle.rw_reader.proofs.Grammar.{Keeps, keeps_after, sound, next, ends_is, is_given, met, given_fine}
+use Rattle.rw_reader.proofs.Shorter.{shortens}
+
+pub none_at_end : (bytes : List ℕ) (t : Token) (there : List ℕ) → bytes ≡ [] → token_at bytes ≡ Some (t, there) → ⊥
+unfolding token_at front_token
+none_at_end [] t there e h = absurd (cc)
+none_at_end (b ∷ bs) t there e h = absurd (cc)
+
+same_form : {f g : Form} → Some f ≡ Some g → f ≡ g
+same_form e = cc
+
+pub same_token : {p q : Token × List ℕ} → Some p ≡ Some q → p ≡ q
+same_token e = cc
+
+nothing_left : (here : List ℕ) → length here ≤ 0 → here ≡ []
+nothing_left [] h = refl
+nothing_left (b ∷ bs) h = absurd (omega arith)
+
+-- with no byte there is no token
+no_token : (f : Form) (here : List ℕ) (go : Form → List ℕ → Ending) → here ≡ [] → token_read f here go (token_at here) ≡ ended f here
+no_token f here go e = by_token (token_at here) refl
+  where
+    by_token : (o : Option (Token × List ℕ)) → token_at here ≡ o → token_read f here go o ≡ ended f here
+    by_token None z = refl
+    by_token (Some p) z = absurd (none_at_end here p.0 p.1 e z)
+
+step_alike : (f : Form) (here : List ℕ) (a b : Form → List ℕ → Ending) → ((g : Form) (t : Token) (there : List ℕ) → token_at here ≡ Some (t, there) → a g there ≡ b g there) → token_read f here a (token_at here) ≡ token_read f here b (token_at here)
+step_alike f here a b h = by_token (token_at here) refl
+  where
+    by_form : (p : Token × List ℕ) (o : Option Form) → token_at here ≡ Some p → form_read here (λ g. a g p.1) o ≡ form_read here (λ g. b g p.1) o
+    by_form p None z = refl
+    by_form p (Some g) z = h g p.0 p.1 z
+
+    by_token : (o : Option (Token × List ℕ)) → token_at here ≡ o → token_read f here a o ≡ token_read f here b o
+    by_token None z = refl
+    by_token (Some p) z = by_form p (after f p.0) z
+
+-- more tokens than bytes need not be allowed
+pub reads_alike : (n m : ℕ) (f : Form) (here : List ℕ) → length here ≤ n → length here ≤ m → read_within n f here ≡ read_within m f here
+unfolding read_within
+reads_alike zero zero f here a b = refl
+reads_alike zero (suc m) f here a b = sym (no_token f here (read_within m) (nothing_left here a))
+reads_alike (suc n) zero f here a b = no_token f here (read_within n) (nothing_left here b)
+reads_alike (suc n) (suc m) f here a b = step_alike f here (read_within n) (read_within m) (λ g t there z. let s = shortens here t there z in reads_alike n m g there (omega arith) (omega arith))
+
+opened : (f : Form) (here : List ℕ) → read_within (suc (length here)) f here ≡ token_read f here (read_within (length here)) (token_at here)
+unfolding read_within
+opened f here = refl
+
+pub open_form : (f : Form) (here : List ℕ) → read_form f here ≡ token_read f here (read_within (length here)) (token_at here)
+unfolding read_form
+open_form f here = reads_alike (length here) (suc (length here)) f here (omega arith) (omega arith) ∙ opened f here
+
+-- a token that goes on
+pub one_token : (f g : Form) (here there : List ℕ) (t : Token) → token_at here ≡ Some (t, there) → after f t ≡ Some g → read_form f here ≡ read_form g there
+unfolding read_form
+one_token f g here there t e a =
+    let s = shortens here t there e in
+    open_form f here ∙ ap (token_read f here (read_within (length here))) e ∙ ap (form_read here (λ h. read_within (length here) h there)) a ∙ reads_alike (length here) (length there) g there (omega arith) (omega arith)
+
+end_stuck : (f : Form) (here : List ℕ) → (here ≡ [] → given f ≡ None) → ended f here ≡ stops here
+end_stuck f [] e = ap (given_or []) (e refl)
+end_stuck f (b ∷ bs) e = refl
+
+-- where a form neither ends nor goes on
+pub stuck_form : (f : Form) (here : List ℕ) → (here ≡ [] → given f ≡ None) → ((t : Token) (there : List ℕ) → token_at here ≡ Some (t, there) → after f t ≡ None) → read_form f here ≡ stops here
+stuck_form f here e h = open_form f here ∙ by_token (token_at here) refl
+  where
+    by_token : (o : Option (Token × List ℕ)) → token_at here ≡ o → token_read f here (read_within (length here)) o ≡ stops here
+    by_token None z = end_stuck f here e
+    by_token (Some p) z = ap (form_read here (λ g. read_within (length here) g p.1)) (h p.0 p.1 z)
+
+end_alike : (f g : Form) (here : List ℕ) → given f ≡ given g → ended f here ≡ ended g here
+end_alike f g [] e = ap (given_or []) e
+end_alike f g (b ∷ bs) e = refl
+
+-- forms that end and go on alike
+pub alike : (f g : Form) (here : List ℕ) → given f ≡ given g → ((t : Token) (there : List ℕ) → token_at here ≡ Some (t, there) → after f t ≡ after g t) → read_form f here ≡ read_form g here
+alike f g here e h = open_form f here ∙ by_token (token_at here) refl ∙ sym (open_form g here)
+  where
+    by_token : (o : Option (Token × List ℕ)) → token_at here ≡ o → token_read f here (read_within (length here)) o ≡ token_read g here (read_within (length here)) o
+    by_token None z = end_alike f g here e
+    by_token (Some p) z = ap (form_read here (λ h. read_within (length here) h p.1)) (h p.0 p.1 z)
 
 -- a whole form
-pub record Whole (f : Form) (here : List ℕ) (r : Request) : Type 0 where
+pub record Whole (P : Given → Type 0) (f : Form) (here : List ℕ) (v : Given) : Type 0 where
   pub tokens : List Token
   pub leads : LeadsTo here tokens []
-  pub is : IsOf f tokens r
+  pub is : IsOf f (length tokens) tokens v
+  pub fine : P v
 
-whole_is : {r q : Request} → whole r ≡ whole q → r ≡ q
+whole_is : {v w : Given} → whole v ≡ whole w → v ≡ w
 whole_is e = cc
 
 stops_is : {l m : List ℕ} → stops l ≡ stops m → l ≡ m
 stops_is e = cc
 
--- what the parts of a form give is taken, so that the recursion is the form's
-fit_whole : (s : Slot) (k : Filled s → Form) (here : List ℕ) (r : Request) (p : Token × List ℕ) → ((v : Filled s) (l : List ℕ) → read_form (k v) l ≡ whole r → Whole (k v) l r) → token_at here ≡ Some p → (o : Option (Filled s)) → filled s p.0 ≡ o → fitted here (λ v. read_form (k v) p.1) o ≡ whole r → Whole (takes s k) here r
-fit_whole s k here r p h z None y e = absurd (cc)
-fit_whole s k here r p h z (Some v) y e =
-    let x = h v p.1 e in
-    record { tokens = p.0 ∷ x.tokens; leads = (p.1, z, x.leads); is = record { first = p.0; rest = x.tokens; filling = v; tokens_are = refl; fills = y; more = x.is } }
+end_whole : (P : Given → Type 0) (F : Token → Bool) (f : Form) (here : List ℕ) (v : Given) → Keeps P F f → ended f here ≡ whole v → Whole P f here v
+end_whole P F f (b ∷ bs) v k e = absurd (cc)
+end_whole P F f [] v k e = by_given (given f) refl e
+  where
+    by_given : (o : Option Given) → given f ≡ o → given_or [] o ≡ whole v → Whole P f [] v
+    by_given None z q = absurd (cc)
+    by_given (Some w) z q =
+        let y : given f ≡ Some v = z ∙ ap Some (whole_is q) in
+        record { tokens = []; leads = refl; is = ends_is P F f 0 v k y; fine = given_fine P F f v k y }
 
-slot_whole : (s : Slot) (k : Filled s → Form) (here : List ℕ) (r : Request) → ((v : Filled s) (l : List ℕ) → read_form (k v) l ≡ whole r → Whole (k v) l r) → (o : Option (Token × List ℕ)) → token_at here ≡ o → slot_read s here (λ v. read_form (k v)) o ≡ whole r → Whole (takes s k) here r
-slot_whole s k here r h None z e = absurd (cc)
-slot_whole s k here r h (Some p) z e = fit_whole s k here r p h z (filled s p.0) refl e
+form_whole : (P : Given → Type 0) (F : Token → Bool) (n : ℕ) (f : Form) (here : List ℕ) (v : Given) (p : Token × List ℕ) → Keeps P F f → token_at here ≡ Some p → ((g : Form) → Keeps P F g → read_within n g p.1 ≡ whole v → Whole P g p.1 v) → (o : Option Form) → after f p.0 ≡ o → form_read here (λ g. read_within n g p.1) o ≡ whole v → Whole P f here v
+form_whole P F n f here v p k z h None y e = absurd (cc)
+form_whole P F n f here v p k z h (Some g) y e =
+    let x = h g (keeps_after P F f g p.0 k y) e in
+    record { tokens = p.0 ∷ x.tokens; leads = (p.1, z, x.leads); is = sound P F f g p.0 (length x.tokens) x.tokens v k y x.is; fine = x.fine }
 
-else_whole : (w : List ℕ) (f g : Form) (here : List ℕ) (r : Request) → Whole g here r → Whole (either w f g) here r
-else_whole w f g here r x = record { tokens = x.tokens; leads = x.leads; is = inr x.is }
+token_whole : (P : Given → Type 0) (F : Token → Bool) (n : ℕ) (f : Form) (here : List ℕ) (v : Given) → Keeps P F f → ((g : Form) (there : List ℕ) → Keeps P F g → read_within n g there ≡ whole v → Whole P g there v) → (o : Option (Token × List ℕ)) → token_at here ≡ o → token_read f here (read_within n) o ≡ whole v → Whole P f here v
+token_whole P F n f here v k h None z e = end_whole P F f here v k e
+token_whole P F n f here v k h (Some p) z e = form_whole P F n f here v p k z (λ g. h g p.1) (after f p.0) refl e
 
-pick_whole : (w : List ℕ) (f g : Form) (here : List ℕ) (r : Request) (p : Token × List ℕ) → (read_form f p.1 ≡ whole r → Whole f p.1 r) → (read_form g here ≡ whole r → Whole g here r) → token_at here ≡ Some p → (b : Bool) → is_text w p.0 ≡ b → cond b (read_form f p.1) (read_form g here) ≡ whole r → Whole (either w f g) here r
-pick_whole w f g here r p hf hg z true y e = let x = hf e in record { tokens = p.0 ∷ x.tokens; leads = (p.1, z, x.leads); is = inl (x.tokens, ap (λ t. t ∷ x.tokens) (text_is w p.0 y), x.is) }
-pick_whole w f g here r p hf hg z false y e = else_whole w f g here r (hg e)
-
-choice_whole : (w : List ℕ) (f g : Form) (here : List ℕ) (r : Request) → ((l : List ℕ) → read_form f l ≡ whole r → Whole f l r) → (read_form g here ≡ whole r → Whole g here r) → (o : Option (Token × List ℕ)) → token_at here ≡ o → choice_read w (read_form f) (read_form g here) o ≡ whole r → Whole (either w f g) here r
-choice_whole w f g here r hf hg None z e = else_whole w f g here r (hg e)
-choice_whole w f g here r hf hg (Some p) z e = pick_whole w f g here r p (hf p.1) hg z (is_text w p.0) refl e
-
-pub whole_as : (f : Form) (here : List ℕ) (r : Request) → read_form f here ≡ whole r → Whole f here r
-unfolding read_form
-whole_as (gives q) [] r e = record { tokens = []; leads = refl; is = (refl, sym (whole_is e)) }
-whole_as (gives q) (b ∷ bs) r e = absurd (cc)
-whole_as (takes s k) here r e = slot_whole s k here r (λ v l h. whole_as (k v) l r h) (token_at here) refl e
-whole_as (either w f g) here r e = choice_whole w f g here r (λ l h. whole_as f l r h) (λ h. whole_as g here r h) (token_at here) refl e
-
--- tokens that begin with the token at a place, or none at the end
-abbrev pub Starts : List ℕ → List Token → Type 0
-Starts there [] = there ≡ []
-Starts there (t ∷ ts) = (behind : List ℕ) × (token_at there ≡ Some (t, behind))
+pub whole_as : (P : Given → Type 0) (F : Token → Bool) (n : ℕ) (f : Form) (here : List ℕ) (v : Given) → Keeps P F f → read_within n f here ≡ whole v → Whole P f here v
+unfolding read_within
+whole_as P F zero f here v k e = end_whole P F f here v k e
+whole_as P F (suc n) f here v k e = token_whole P F n f here v k (λ g there. whole_as P F n g there v) (token_at here) refl e
 
 -- a form that is read up to a place, where it cannot go on
-pub record Stopped (f : Form) (here there : List ℕ) : Type 0 where
+pub record Stopped (P : Given → Type 0) (f : Form) (here there : List ℕ) : Type 0 where
   pub before : List Token
   pub leads : LeadsTo here before there
-  pub goes : Goes f before
-  pub stuck : (more : List Token) (q : Request) → Starts there more → ¬ (IsOf f (before ++ more) q)
+  pub rest : List Token
+  pub value : Given
+  pub fine : P value
+  pub goes : IsOf f (length before) (before ++ rest) value
+  pub stuck : (t : Token) (behind : List ℕ) → token_at there ≡ Some (t, behind) → (n : ℕ) (more : List Token) (v : Given) → length before < n → ¬ (IsOf f n (before ++ t ∷ more) v)
+  pub early : there ≡ [] → (n : ℕ) (v : Given) → length before ≤ n → ¬ (IsOf f n before v)
 
--- the first token
-first_at : (here there : List ℕ) (before more : List Token) (t : Token) (rest : List Token) → LeadsTo here before there → Starts there more → before ++ more ≡ t ∷ rest → (behind : List ℕ) × (token_at here ≡ Some (t, behind))
-first_at here there [] [] t rest l s e = absurd (cc)
-first_at here there [] (u ∷ more) t rest l s e = (s.0, ap token_at l ∙ s.1 ∙ ap (λ x. Some (x, s.0)) {x = u} {y = t} (cc))
-first_at here there (u ∷ before) more t rest l s e = (l.0, l.1 ∙ ap (λ x. Some (x, l.0)) {x = u} {y = t} (cc))
+at_once : (P : Given → Type 0) (F : Token → Bool) (f : Form) (here there : List ℕ) → Keeps P F f → stops here ≡ stops there → ((t : Token) (behind : List ℕ) → token_at here ≡ Some (t, behind) → after f t ≡ None) → (here ≡ [] → given f ≡ None) → Stopped P f here there
+at_once P F f here there k e a g =
+    let m = met P F f k in
+    let same = stops_is e in
+    record {
+      before = [];
+      leads = same;
+      rest = m.tokens;
+      value = m.value;
+      fine = m.fine;
+      goes = m.is;
+      stuck = λ t behind z n more v. no_next t behind (ap token_at same ∙ z) n more v;
+      early = λ z n v l i. let x : Some v ≡ None = sym (is_given P F f n v k i) ∙ g (same ∙ z) in absurd (cc);
+    }
+  where
+    no_next : (t : Token) (behind : List ℕ) → token_at here ≡ Some (t, behind) → (n : ℕ) (more : List Token) (v : Given) → 0 < n → ¬ (IsOf f n (t ∷ more) v)
+    no_next t behind z zero more v l i = absurd (omega arith)
+    no_next t behind z (suc n) more v l i = let x = next P F f t n more v k i in let y : None ≡ Some x.form = sym (a t behind z) ∙ x.is_after in absurd (cc)
 
-at_once : (f : Form) (here there : List ℕ) → Keeps f → stops here ≡ stops there → ((more : List Token) (q : Request) → Starts here more → ¬ (IsOf f more q)) → Stopped f here there
-at_once f here there k e n = record { before = []; leads = stops_is e; goes = met f k; stuck = subst (λ l. (more : List Token) (q : Request) → Starts l more → ¬ (IsOf f more q)) (stops_is e) n }
+end_stops : (P : Given → Type 0) (F : Token → Bool) (f : Form) (here there : List ℕ) → Keeps P F f → token_at here ≡ None → ended f here ≡ stops there → Stopped P f here there
+end_stops P F f (b ∷ bs) there k z e = at_once P F f (b ∷ bs) there k e (λ t behind y. absurd (cc (z, y))) (λ y. absurd (cc (y)))
+end_stops P F f [] there k z e = by_given (given f) refl e
+  where
+    by_given : (o : Option Given) → given f ≡ o → given_or [] o ≡ stops there → Stopped P f [] there
+    by_given None y q = at_once P F f [] there k q (λ t behind x. absurd (cc (z, x))) (λ x. y)
+    by_given (Some v) y q = absurd (cc)
 
-starts_first : (here : List ℕ) (more : List Token) (t : Token) (rest : List Token) → Starts here more → more ≡ t ∷ rest → (behind : List ℕ) × (token_at here ≡ Some (t, behind))
-starts_first here more t rest s e = first_at here here [] more t rest refl s e
+-- what a form with one token more is
+further : (P : Given → Type 0) (F : Token → Bool) (f g : Form) (t : Token) (ts : List Token) (v : Given) (least m : ℕ) → Keeps P F f → after f t ≡ Some g → ((r : ℕ) → least ≤ r → IsOf g r ts v → ⊥) → suc least ≤ m → IsOf f m (t ∷ ts) v → ⊥
+further P F f g t ts v least zero k y h l i = absurd (omega arith)
+further P F f g t ts v least (suc m) k y h l i =
+    let x = next P F f t m ts v k i in
+    let same : x.form ≡ g = same_form (sym x.is_after ∙ y) in
+    h m (omega arith) (subst (λ a. IsOf a m ts v) same x.is)
 
-fit_stops : (s : Slot) (k : Filled s → Form) (here there : List ℕ) (p : Token × List ℕ) → Keeps (takes s k) → ((v : Filled s) (l : List ℕ) → read_form (k v) l ≡ stops there → Stopped (k v) l there) → token_at here ≡ Some p → (o : Option (Filled s)) → filled s p.0 ≡ o → fitted here (λ v. read_form (k v) p.1) o ≡ stops there → Stopped (takes s k) here there
-fit_stops s k here there p keep h z None y e = at_once (takes s k) here there keep e (λ more q st i.
-    let x = starts_first here more i.first i.rest st i.tokens_are in
-    let same : p.0 ≡ i.first = ap (λ a. a.0) (some_is (sym z ∙ x.1)) in
-    let both : None ≡ Some i.filling = sym y ∙ ap (filled s) same ∙ i.fills in
-    absurd (cc))
-fit_stops s k here there p keep h z (Some v) y e =
-    let x = h v p.1 e in
+form_stops : (P : Given → Type 0) (F : Token → Bool) (n : ℕ) (f : Form) (here there : List ℕ) (p : Token × List ℕ) → Keeps P F f → token_at here ≡ Some p → ((g : Form) → Keeps P F g → read_within n g p.1 ≡ stops there → Stopped P g p.1 there) → (o : Option Form) → after f p.0 ≡ o → form_read here (λ g. read_within n g p.1) o ≡ stops there → Stopped P f here there
+form_stops P F n f here there p k z h None y e = at_once P F f here there k e (λ t behind q. let same : p.0 ≡ t = ap (λ x. x.0) (same_token (sym z ∙ q)) in subst (λ x. after f x ≡ None) same y) (λ q. absurd (none_at_end here p.0 p.1 q z))
+form_stops P F n f here there p k z h (Some g) y e =
+    let x = h g (keeps_after P F f g p.0 k y) e in
     record {
       before = p.0 ∷ x.before;
       leads = (p.1, z, x.leads);
-      goes = record { rest = x.goes.rest; request = x.goes.request; is = record { first = p.0; rest = x.before ++ x.goes.rest; filling = v; tokens_are = refl; fills = y; more = x.goes.is } };
-      stuck = λ more q st i.
-          let first : p.0 ≡ i.first = cc (i.tokens_are) in
-          let rest : x.before ++ more ≡ i.rest = cc (i.tokens_are) in
-          let same : v ≡ i.filling = some_is (sym y ∙ ap (filled s) first ∙ i.fills) in
-          x.stuck more q st (subst (λ a. IsOf (k v) a q) (sym rest) (subst (λ a. IsOf (k a) i.rest q) (sym same) i.more));
+      rest = x.rest;
+      value = x.value;
+      fine = x.fine;
+      goes = sound P F f g p.0 (length x.before) (x.before ++ x.rest) x.value k y x.goes;
+      stuck = λ t behind q m more v l i. further P F f g p.0 (x.before ++ t ∷ more) v (suc (length x.before)) m k y (λ r w j. x.stuck t behind q r more v w j) l i;
+      early = λ q m v l i. further P F f g p.0 x.before v (length x.before) m k y (λ r w j. x.early q r v w j) l i;
     }
 
-slot_stops : (s : Slot) (k : Filled s → Form) (here there : List ℕ) → Keeps (takes s k) → ((v : Filled s) (l : List ℕ) → read_form (k v) l ≡ stops there → Stopped (k v) l there) → (o : Option (Token × List ℕ)) → token_at here ≡ o → slot_read s here (λ v. read_form (k v)) o ≡ stops there → Stopped (takes s k) here there
-slot_stops s k here there keep h None z e = at_once (takes s k) here there keep e (λ more q st i. let y = starts_first here more i.first i.rest st i.tokens_are in absurd (cc (z, y.1)))
-slot_stops s k here there keep h (Some p) z e = fit_stops s k here there p keep h z (filled s p.0) refl e
+token_stops : (P : Given → Type 0) (F : Token → Bool) (n : ℕ) (f : Form) (here there : List ℕ) → Keeps P F f → ((g : Form) (t : Token) (next_one : List ℕ) → token_at here ≡ Some (t, next_one) → Keeps P F g → read_within n g next_one ≡ stops there → Stopped P g next_one there) → (o : Option (Token × List ℕ)) → token_at here ≡ o → token_read f here (read_within n) o ≡ stops there → Stopped P f here there
+token_stops P F n f here there k h None z e = end_stops P F f here there k z e
+token_stops P F n f here there k h (Some p) z e = form_stops P F n f here there p k z (λ g. h g p.0 p.1 z) (after f p.0) refl e
 
--- where the first token is not the word
-else_stuck : (w : List ℕ) (f g : Form) (here there : List ℕ) (x : Stopped g here there) → ((behind : List ℕ) → ¬ (token_at here ≡ Some (text w, behind))) → (more : List Token) (q : Request) → Starts there more → IsOf (either w f g) (x.before ++ more) q → ⊥
-else_stuck w f g here there x not_so more q st (inl c) = let y = first_at here there x.before more (text w) c.0 x.leads st c.1 in not_so y.0 y.1
-else_stuck w f g here there x not_so more q st (inr i) = x.stuck more q st i
+pub stops_as : (P : Given → Type 0) (F : Token → Bool) (n : ℕ) (f : Form) (here there : List ℕ) → Keeps P F f → length here ≤ n → read_within n f here ≡ stops there → Stopped P f here there
+unfolding read_within
+stops_as P F zero f here there k l e = end_stops P F f here there k (none_here here (nothing_left here l)) e
+  where
+    none_here : (bytes : List ℕ) → bytes ≡ [] → token_at bytes ≡ None
+    none_here bytes e = by_token (token_at bytes) refl
+      where
+        by_token : (o : Option (Token × List ℕ)) → token_at bytes ≡ o → o ≡ None
+        by_token None z = refl
+        by_token (Some p) z = absurd (none_at_end bytes p.0 p.1 e z)
+stops_as P F (suc n) f here there k l e = token_stops P F n f here there k (λ g t next_one z m x. let s = shortens here t next_one z in stops_as P F n g next_one there m (omega arith) x) (token_at here) refl e
 
-else_stops : (w : List ℕ) (f g : Form) (here there : List ℕ) → ((behind : List ℕ) → ¬ (token_at here ≡ Some (text w, behind))) → Stopped g here there → Stopped (either w f g) here there
-else_stops w f g here there not_so x = record { before = x.before; leads = x.leads; goes = record { rest = x.goes.rest; request = x.goes.request; is = inr x.goes.is }; stuck = else_stuck w f g here there x not_so }
-
--- where it is the word
-then_stuck : (w : List ℕ) (f g : Form) (here there : List ℕ) (t : Token) (x : Stopped f here there) → begins g (text w) ≡ false → t ≡ text w → (more : List Token) (q : Request) → Starts there more → IsOf (either w f g) (t ∷ (x.before ++ more)) q → ⊥
-then_stuck w f g here there t x not_so e more q st (inl c) = let rest : x.before ++ more ≡ c.0 = cc (c.1) in x.stuck more q st (subst (λ a. IsOf f a q) (sym rest) c.2)
-then_stuck w f g here there t x not_so e more q st (inr i) = apart w g (x.before ++ more) (t ∷ (x.before ++ more)) q not_so (ap (λ u. u ∷ (x.before ++ more)) e) i
-
-pick_stops : (w : List ℕ) (f g : Form) (here there : List ℕ) (p : Token × List ℕ) → begins g (text w) ≡ false → (read_form f p.1 ≡ stops there → Stopped f p.1 there) → (read_form g here ≡ stops there → Stopped g here there) → token_at here ≡ Some p → (b : Bool) → is_text w p.0 ≡ b → cond b (read_form f p.1) (read_form g here) ≡ stops there → Stopped (either w f g) here there
-pick_stops w f g here there p not_so hf hg z true y e =
-    let x = hf e in
-    let t = text_is w p.0 y in
-    record {
-      before = p.0 ∷ x.before;
-      leads = (p.1, z, x.leads);
-      goes = record { rest = x.goes.rest; request = x.goes.request; is = inl (x.before ++ x.goes.rest, ap (λ u. u ∷ (x.before ++ x.goes.rest)) t, x.goes.is) };
-      stuck = then_stuck w f g p.1 there p.0 x not_so t;
-    }
-pick_stops w f g here there p not_so hf hg z false y e = else_stops w f g here there (λ behind u.
-    let same : p.0 ≡ text w = ap (λ a. a.0) (some_is (sym z ∙ u)) in
-    true≢false (sym (is_text_own w) ∙ ap (is_text w) (sym same) ∙ y)) (hg e)
-
-choice_stops : (w : List ℕ) (f g : Form) (here there : List ℕ) → begins g (text w) ≡ false → ((l : List ℕ) → read_form f l ≡ stops there → Stopped f l there) → (read_form g here ≡ stops there → Stopped g here there) → (o : Option (Token × List ℕ)) → token_at here ≡ o → choice_read w (read_form f) (read_form g here) o ≡ stops there → Stopped (either w f g) here there
-choice_stops w f g here there not_so hf hg None z e = else_stops w f g here there (λ behind y. absurd (cc (z, y))) (hg e)
-choice_stops w f g here there not_so hf hg (Some p) z e = pick_stops w f g here there p not_so (hf p.1) hg z (is_text w p.0) refl e
-
-pub stops_as : (f : Form) (here there : List ℕ) → Keeps f → read_form f here ≡ stops there → Stopped f here there
-unfolding read_form
-stops_as (gives r) [] there k e = absurd (cc)
-stops_as (gives r) (b ∷ bs) there k e = at_once (gives r) (b ∷ bs) there k e (λ more q s i. let z : b ∷ bs ≡ [] = subst (Starts (b ∷ bs)) i.0 s in absurd (cc))
-stops_as (takes s k) here there h e = slot_stops s k here there h (λ v l y. stops_as (k v) l there (h v) y) (token_at here) refl e
-stops_as (either w f g) here there h e = choice_stops w f g here there h.0 (λ l y. stops_as f l there h.1 y) (λ y. stops_as g here there h.2 y) (token_at here) refl e
+-- no tokens are of a form with two values
+pub one : (P : Given → Type 0) (F : Token → Bool) (ts : List Token) (f : Form) (v w : Given) → Keeps P F f → IsOf f (length ts) ts v → IsOf f (length ts) ts w → v ≡ w
+one P F [] f v w k a b = given_is (sym (is_given P F f 0 v k a) ∙ is_given P F f 0 w k b)
+  where
+    given_is : {x y : Given} → Some x ≡ Some y → x ≡ y
+    given_is e = cc
+one P F (t ∷ ts) f v w k a b =
+    let x = next P F f t (length ts) ts v k a in
+    let y = next P F f t (length ts) ts w k b in
+    let same : y.form ≡ x.form = same_form (sym y.is_after ∙ x.is_after) in
+    one P F ts x.form v w (keeps_after P F f x.form t k x.is_after) x.is (subst (λ g. IsOf g (length ts) ts w) same y.is)

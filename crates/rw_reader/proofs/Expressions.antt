@@ -1,5 +1,5 @@
 -- What the reader's loop keeps, what it answers at its exits, and that these exclude one another.
-use Rattle.std.proofs.Common.{◌≡◌, ℕ, zero, suc, ◌+◌, ◌-◌, ◌≤◌, ◌<◌, ◌⊎◌, List, [], ◌∷◌, ◌++◌, length, drop, take, Option, Some, None, refl, sym, ap, ◌∙◌, subst, arith, append-nil, append_assoc, inl, inr, length-drop}
+use Rattle.std.proofs.Common.{◌≡◌, ℕ, ◌+◌, ◌-◌, ◌≤◌, ◌<◌, ◌⊎◌, List, [], ◌∷◌, ◌++◌, length, drop, Option, Some, None, refl, sym, ap, ◌∙◌, subst, arith, append-nil, append_assoc, inl, inr, length-drop}
 use Rattle.std.proofs.lemmas.List.{drop_all}
 use Rattle.rw_reader.specs.declared.request.ReadError.{ReadError}
 use Rattle.rw_reader.specs.declared.request.ReadError.TheVariants as read_error
@@ -10,7 +10,7 @@ use Rattle.rw_syntax.specs.declared.state.State.{State}
 use Rattle.rw_syntax.specs.declared.state.State.TheVariants.{Wants as wants}
 use Rattle.rw_syntax.specs.Machine.{advance, run_within, finish}
 use Rattle.rw_syntax.specs.Steps.{advance_shut, finish_shut}
-use Rattle.rw_syntax.specs.Spelling.{AreWithin, Spells, CanGoOn}
+use Rattle.rw_syntax.specs.Spelling.{Spells, CanGoOn}
 use Rattle.rw_syntax.proofs.Exact.{ends_spells, runs_can, one_value, run_last, refused, no_value}
 use Rattle.rw_syntax.proofs.TermsApart.{terms_only, formulas_only}
 use Rattle.rw_terms.specs.declared.term.Term.{Term}
@@ -20,7 +20,7 @@ use Rattle.rw_reader.specs.Tokens.{Token, skip, front_token, token_at, LeadsTo}
 use Rattle.rw_reader.specs.Classes.{class_of, AreClasses}
 use Rattle.rw_reader.specs.Expressions.{TokensSpell, TokensGoOn, TextSpells, IsFaultOf}
 use Rattle.rw_reader.specs.Turns.{Turns, RefusedAs, Refuses}
-use Rattle.rw_reader.proofs.Grammar.{some_is}
+use Rattle.rw_reader.proofs.Grammar.{some_is, take_less, take_within}
 use Rattle.rw_reader.proofs.Shorter.{shortens}
 use Rattle.rw_reader.proofs.Classes.{same_classes, one_class, last_class, front_classes}
 
@@ -30,7 +30,7 @@ pub record Read (goal : ℕ) (line left : List ℕ) (s : State) : Type 0 where
   pub classes : List Class
   pub leads : LeadsTo (skip line) before left
   pub are : AreClasses before classes
-  pub runs : run_within goal (wants []) classes ≡ Some s
+  pub runs : run_within 512 goal (wants []) classes ≡ Some s
 
 pub begun : (goal : ℕ) (line left : List ℕ) (s : State) → left ≡ skip (drop 0 line) → s ≡ wants [] → Read goal line left s
 unfolding run_within
@@ -40,7 +40,7 @@ lead_one : (here : List ℕ) (ts : List Token) (left : List ℕ) (t : Token) (be
 lead_one here [] left t behind l e = (behind, ap token_at l ∙ e, refl)
 lead_one here (k ∷ ts) left t behind l e = (l.0, l.1, lead_one l.0 ts left t behind l.2 e)
 
-advance_is : (goal : ℕ) (s : State) (c : Class) → advance_shut goal s c ≡ advance goal s c
+advance_is : (goal : ℕ) (s : State) (c : Class) → advance_shut 512 goal s c ≡ advance 512 goal s c
 unfolding advance_shut
 advance_is goal s c = refl
 
@@ -48,17 +48,17 @@ finish_is : (goal : ℕ) (s : State) → finish_shut goal s ≡ finish goal s
 unfolding finish_shut
 finish_is goal s = refl
 
-pub one_more : (goal : ℕ) (line left : List ℕ) (s : State) (there : List ℕ) (s2 : State) → Read goal line left s → Turns goal left s there s2 → Read goal line there s2
+pub one_more : (goal : ℕ) (line left : List ℕ) (s : State) (there : List ℕ) (s2 : State) → Read goal line left s → Turns 512 goal left s there s2 → Read goal line there s2
 one_more goal line left s there s2 r t = record {
   before = r.before ++ t.token ∷ [];
   classes = r.classes ++ t.class ∷ [];
   leads = lead_one (skip line) r.before left t.token there r.leads t.stands;
   are = one_class r.before r.classes t.token t.class r.are t.is;
-  runs = run_last goal (wants []) r.classes t.class s r.runs ∙ sym (advance_is goal s t.class) ∙ t.advances;
+  runs = run_last 512 goal (wants []) r.classes t.class s r.runs ∙ sym (advance_is goal s t.class) ∙ t.advances;
 }
 
 pub ends_well : (goal : ℕ) (line left : List ℕ) (s : State) (v : Part) → goal ≤ 9 → Read goal line left s → left ≡ [] → finish_shut goal s ≡ Some v → TextSpells goal line v
-ends_well goal line left s v g r e f = (r.before, subst (LeadsTo (skip line) r.before) e r.leads, (r.classes, r.are, ends_spells goal r.classes s v g r.runs (sym (finish_is goal s) ∙ f)))
+ends_well goal line left s v g r e f = (r.before, subst (LeadsTo (skip line) r.before) e r.leads, (r.classes, r.are, ends_spells 512 goal r.classes s v g r.runs (sym (finish_is goal s) ∙ f)))
 
 none_at_end : token_at [] ≡ None
 unfolding token_at front_token
@@ -73,26 +73,26 @@ ends_early goal line left s g r e f = record {
   before = r.before;
   left = left;
   leads = r.leads;
-  goes = (r.classes, r.are, runs_can goal r.classes s g r.runs);
+  goes = (r.classes, r.are, runs_can 512 goal r.classes s g r.runs);
   stuck = λ t behind h. absurd (no_token_at_end left (t, behind) e h);
-  early = λ z v sp. no_value goal r.classes s v g r.runs (sym (finish_is goal s) ∙ f) (subst (λ cs. Spells goal cs v) (same_classes r.before sp.0 r.classes sp.1 r.are) sp.2);
+  early = λ z v sp. no_value 512 goal r.classes s v g r.runs (sym (finish_is goal s) ∙ f) (subst (λ cs. Spells 512 goal cs v) (same_classes r.before sp.0 r.classes sp.1 r.are) sp.2);
   place = ap (λ x. length line + length x) e ∙ omega arith;
 }
 
-refused_at : (goal : ℕ) (s : State) (cs : List Class) (c : Class) (o : Option Class) → goal ≤ 9 → run_within goal (wants []) cs ≡ Some s → o ≡ Some c → RefusedAs goal s o → ¬ (CanGoOn goal (cs ++ c ∷ []))
+refused_at : (goal : ℕ) (s : State) (cs : List Class) (c : Class) (o : Option Class) → goal ≤ 9 → run_within 512 goal (wants []) cs ≡ Some s → o ≡ Some c → RefusedAs 512 goal s o → ¬ (CanGoOn 512 goal (cs ++ c ∷ []))
 refused_at goal s cs c None g r e h = absurd (cc)
-refused_at goal s cs c (Some d) g r e h = let same : d ≡ c = some_is e in refused goal cs c s g r (sym (advance_is goal s c) ∙ ap (advance_shut goal s) (sym same) ∙ h)
+refused_at goal s cs c (Some d) g r e h = let same : d ≡ c = some_is e in refused 512 goal cs c s g r (sym (advance_is goal s c) ∙ ap (advance_shut 512 goal s) (sym same) ∙ h)
 
 -- what stands next is no token, or a token that the tokens before it do not go on with
-pub stops_here : (goal : ℕ) (line left : List ℕ) (s : State) (o : ℕ) → goal ≤ 9 → Read goal line left s → (left ≡ [] → ⊥) → Refuses goal left s → o + length left ≡ length line → IsFaultOf goal line o
+pub stops_here : (goal : ℕ) (line left : List ℕ) (s : State) (o : ℕ) → goal ≤ 9 → Read goal line left s → (left ≡ [] → ⊥) → Refuses 512 goal left s → o + length left ≡ length line → IsFaultOf goal line o
 stops_here goal line left s o g r more h p = record {
   before = r.before;
   left = left;
   leads = r.leads;
-  goes = (r.classes, r.are, runs_can goal r.classes s g r.runs);
+  goes = (r.classes, r.are, runs_can 512 goal r.classes s g r.runs);
   stuck = λ t behind e go.
       let k = last_class r.before r.classes go.0 t r.are go.1 in
-      refused_at goal s r.classes k.0 (class_of t) g r.runs k.1 (h t behind e) (subst (CanGoOn goal) k.2 go.2);
+      refused_at goal s r.classes k.0 (class_of t) g r.runs k.1 (h t behind e) (subst (CanGoOn 512 goal) k.2 go.2);
   early = λ z v. absurd (more z);
   place = p;
 }
@@ -105,7 +105,7 @@ more_left : (line : List ℕ) (at : ℕ) → at < length line → drop at line �
 more_left line at h e = let n : length (drop at line) ≡ 0 = ap length e in let k = length-drop at line in absurd (omega arith)
 
 -- the faults that a turn tells
-pub turn_faults : (goal : ℕ) (line : List ℕ) (at : ℕ) (s : State) (e : ReadError) → goal ≤ 9 → at < length line → Read goal line (drop at line) s → (e ≡ read_error.Memory) ⊎ ((e ≡ read_error.Syntax at) × Refuses goal (drop at line) s) → (e ≡ read_error.Memory) ⊎ ((o : ℕ) × (e ≡ read_error.Syntax o) × IsFaultOf goal line o)
+pub turn_faults : (goal : ℕ) (line : List ℕ) (at : ℕ) (s : State) (e : ReadError) → goal ≤ 9 → at < length line → Read goal line (drop at line) s → (e ≡ read_error.Memory) ⊎ ((e ≡ read_error.Syntax at) × Refuses 512 goal (drop at line) s) → (e ≡ read_error.Memory) ⊎ ((o : ℕ) × (e ≡ read_error.Syntax o) × IsFaultOf goal line o)
 turn_faults goal line at s e g h r (inl m) = inl m
 turn_faults goal line at s e g h r (inr k) = inr (at, k.0, stops_here goal line (drop at line) s at g r (more_left line at h) k.1 (let z = length-drop at line in omega arith))
 
@@ -116,7 +116,7 @@ pub end_fault : (goal : ℕ) (line : List ℕ) (at : ℕ) (s : State) (o : Optio
 end_fault goal line at s o e g h r f n k = inr (length line, k, ends_early goal line (drop at line) s g r (at_end line at h) (sym f ∙ n))
 
 -- a turn takes bytes
-pub turn_falls : (goal : ℕ) (line : List ℕ) (at next : ℕ) (s s2 : State) → Turns goal (drop at line) s (drop next line) s2 → length line - next < length line - at
+pub turn_falls : (goal : ℕ) (line : List ℕ) (at next : ℕ) (s s2 : State) → Turns 512 goal (drop at line) s (drop next line) s2 → length line - next < length line - at
 turn_falls goal line at next s s2 t = let a = shortens (drop at line) t.token (drop next line) t.stands in let b = length-drop at line in let c = length-drop next line in omega arith
 
 -- one list of tokens begins the other
@@ -142,30 +142,19 @@ ends_last here (t ∷ before) (k ∷ ts) left a b =
     let r = ends_last a.0 before ts left a.2 (subst (λ x. LeadsTo x ts []) (sym (ap (λ p. p.1) same)) b.2) in
     omega arith
 
-take_less : (n m : ℕ) (ns : List ℕ) → n ≤ m → AreWithin (take m ns) → AreWithin (take n ns)
-take_less zero m ns h w = tt
-take_less (suc n) zero ns h w = absurd (omega arith)
-take_less (suc n) (suc m) [] h w = tt
-take_less (suc n) (suc m) (k ∷ ns) h w = (w.0, take_less n m ns (omega arith) w.1)
-
-take_within : (n : ℕ) (ns : List ℕ) → AreWithin ns → AreWithin (take n ns)
-take_within zero ns w = tt
-take_within (suc n) [] w = tt
-take_within (suc n) (k ∷ ns) w = (w.0, take_within n ns w.1)
-
 length_front : (a b : List Class) → length a ≤ length (a ++ b)
 length_front [] b = omega arith
 length_front (c ∷ a) b = let r = length_front a b in omega arith
 
 -- a front of what can go on can go on
-front_goes : (goal : ℕ) (a b : List Class) → CanGoOn goal (a ++ b) → CanGoOn goal a
-front_goes goal a b c = record { tree = c.tree; rest = b ++ c.rest; formed = c.formed; fit = c.fit; written = c.written ∙ append_assoc a b c.rest; within = take_less (length a) (length (a ++ b)) (nests 0 c.tree) (length_front a b) c.within }
+front_goes : (goal : ℕ) (a b : List Class) → CanGoOn 512 goal (a ++ b) → CanGoOn 512 goal a
+front_goes goal a b c = record { tree = c.tree; rest = b ++ c.rest; formed = c.formed; fit = c.fit; written = c.written ∙ append_assoc a b c.rest; within = take_less 512 (length a) (length (a ++ b)) (nests 0 c.tree) (length_front a b) c.within }
 
-spelled_goes : (goal : ℕ) (cs : List Class) (v : Part) → Spells goal cs v → CanGoOn goal cs
-spelled_goes goal cs v s = record { tree = s.tree; rest = []; formed = s.formed; fit = s.fit; written = s.written ∙ sym (append-nil cs); within = take_within (length cs) (nests 0 s.tree) s.within }
+spelled_goes : (goal : ℕ) (cs : List Class) (v : Part) → Spells 512 goal cs v → CanGoOn 512 goal cs
+spelled_goes goal cs v s = record { tree = s.tree; rest = []; formed = s.formed; fit = s.fit; written = s.written ∙ sym (append-nil cs); within = take_within 512 (length cs) (nests 0 s.tree) s.within }
 
 tokens_front : (goal : ℕ) (a b : List Token) → TokensGoOn goal (a ++ b) → TokensGoOn goal a
-tokens_front goal a b g = let r = front_classes a b g.0 g.1 in (r.0, r.3, front_goes goal r.0 r.1 (subst (CanGoOn goal) r.2 g.2))
+tokens_front goal a b g = let r = front_classes a b g.0 g.1 in (r.0, r.3, front_goes goal r.0 r.1 (subst (CanGoOn 512 goal) r.2 g.2))
 
 -- no more tokens stand behind a fault
 stuck_front : (goal : ℕ) (line : List ℕ) (o : ℕ) (f : IsFaultOf goal line o) (k : Token) (more : List Token) (end : List ℕ) → LeadsTo f.left (k ∷ more) end → TokensGoOn goal (f.before ++ k ∷ more) → ⊥
@@ -191,7 +180,7 @@ same_tokens here (t ∷ ts) (u ∷ us) a b =
 
 -- tokens have one value
 pub one_tokens_value : (goal : ℕ) (ts : List Token) (v w : Part) → goal ≤ 9 → TokensSpell goal ts v → TokensSpell goal ts w → v ≡ w
-one_tokens_value goal ts v w g x y = one_value goal x.0 v w g x.2 (subst (λ cs. Spells goal cs w) (same_classes ts y.0 x.0 y.1 x.1) y.2)
+one_tokens_value goal ts v w g x y = one_value 512 goal x.0 v w g x.2 (subst (λ cs. Spells 512 goal cs w) (same_classes ts y.0 x.0 y.1 x.1) y.2)
 
 -- a text has one value
 pub one_text_value : (goal : ℕ) (line : List ℕ) (v w : Part) → goal ≤ 9 → TextSpells goal line v → TextSpells goal line w → v ≡ w
@@ -218,7 +207,7 @@ one_fault goal line o p f h = go (either_way (length f.before) (length h.before)
 
 -- what is read as a term is no formula, and what is read as a formula no term
 pub no_formula : (line : List ℕ) (v : Part) (f : Formula) → v ≡ parts.Formula f → TextSpells 6 line v → ⊥
-no_formula line v f e t = let s = t.2 in terms_only s.0 f (subst (Spells 6 s.0) e s.2)
+no_formula line v f e t = let s = t.2 in terms_only 512 s.0 f (subst (Spells 512 6 s.0) e s.2)
 
 pub no_term : (line : List ℕ) (v : Part) (t : Term) → v ≡ parts.Term t → TextSpells 1 line v → ⊥
-no_term line v u e t = let s = t.2 in formulas_only s.0 u (subst (Spells 1 s.0) e s.2)
+no_term line v u e t = let s = t.2 in formulas_only 512 s.0 u (subst (Spells 512 1 s.0) e s.2)

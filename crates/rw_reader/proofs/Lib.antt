@@ -4,7 +4,12 @@ pub mod Grammar
 pub mod Endings
 pub mod Lines
 pub mod Parts
-pub mod Made
 pub mod Shorter
 pub mod Classes
 pub mod Expressions
+pub mod Plain
+pub mod Requests
+pub mod Values
+pub mod Listing
+pub mod Made
+pub mod ListItems

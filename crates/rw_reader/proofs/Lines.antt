@@ -1,20 +1,17 @@
 -- A line is read as a request exactly where its tokens spell it, and has the fault that is told exactly where it has it.
 use Rattle.std.proofs.Common.{◌≡◌, ℕ, ◌-◌, ◌≤◌, List, [], ◌∷◌, ◌++◌, length, Option, Some, None, refl, sym, ap, ◌∙◌, subst, arith, append-nil, append_assoc, length-drop, drop, ◌⊎◌, inl, inr}
+use Rattle.std.proofs.lemmas.List.{length-append}
 use Rattle.std.specs.Prelude.{option_map, ◌↔◌, Result, Ok, Err, IfOk, IfErr}
 use Rattle.rw_reader.specs.declared.request.Request.{Request}
 use Rattle.rw_reader.specs.Tokens.{Token, skip, token_at, front_token, with_next, LeadsTo}
 use Rattle.rw_reader.specs.declared.request.ReadError.{ReadError}
 use Rattle.rw_reader.specs.declared.request.ReadError.TheVariants.{Syntax, Memory}
-use Rattle.rw_reader.specs.Forms.{Form, request_form}
+use Rattle.rw_reader.specs.Forms.{Given, a_request, Form, IsOf, request_form}
 use Rattle.rw_reader.specs.Progress.{Answers}
-use Rattle.rw_reader.specs.Reading.{Spells, CanGoOn, LineSpells, IsFault, Ending, whole, stops, read_form, Reading, reads, fault, told, reading}
-use Rattle.rw_reader.proofs.Grammar.{some_is, one, requests_keep}
-use Rattle.rw_reader.proofs.Endings.{whole_as, stops_as}
-
-no_token_at_end : (bytes : List ℕ) (t : Token) (behind : List ℕ) → bytes ≡ [] → token_at bytes ≡ Some (t, behind) → ⊥
-unfolding token_at front_token
-no_token_at_end [] t behind e h = absurd (cc)
-no_token_at_end (b ∷ bs) t behind e h = absurd (cc)
+use Rattle.rw_reader.specs.Reading.{Spells, CanGoOn, LineSpells, IsFault, Ending, whole, stops, read_form, Reading, reads, fault, asked, told, reading}
+use Rattle.rw_reader.proofs.Grammar.{some_is}
+use Rattle.rw_reader.proofs.Requests.{IsRequest, nothing, requests_keep}
+use Rattle.rw_reader.proofs.Endings.{none_at_end, whole_as, stops_as, one}
 
 -- one list of tokens begins the other
 record Aligned (before ts : List Token) (left end : List ℕ) : Type 0 where
@@ -40,14 +37,18 @@ aligned bytes (t ∷ before) (k ∷ ts) left end a b =
 
 -- what goes on from a fault's place
 goes_one_more : (before : List Token) (k : Token) (ks : List Token) → CanGoOn (before ++ k ∷ ks) → CanGoOn (before ++ k ∷ [])
-goes_one_more before k ks c = (ks ++ c.0, c.1, subst (λ x. Spells x c.1) (append_assoc before (k ∷ ks) c.0 ∙ sym (append_assoc before (k ∷ []) (ks ++ c.0))) c.2)
+goes_one_more before k ks c =
+    let a = length-append before (k ∷ ks) in
+    let b = length-append before (k ∷ []) in
+    let l = c.1 in
+    (c.0, omega arith, ks ++ c.2, c.3, subst (λ x. IsOf request_form c.0 x (a_request c.3)) (append_assoc before (k ∷ ks) c.2 ∙ sym (append_assoc before (k ∷ []) (ks ++ c.2))) c.4)
 
 -- a list of tokens that goes on past a fault
 past : (line : List ℕ) (o : ℕ) (f : IsFault line o) (k : Token) (more : List Token) (end : List ℕ) → LeadsTo f.left (k ∷ more) end → ¬ (CanGoOn (f.before ++ k ∷ more))
 past line o f k more end l c = f.stuck k l.0 l.1 (goes_one_more f.before k more c)
 
 spells_goes : (ts : List Token) (r : Request) → Spells ts r → CanGoOn ts
-spells_goes ts r s = ([], r, subst (λ x. Spells x r) (sym (append-nil ts)) s)
+spells_goes ts r s = (length ts, omega arith, [], r, subst (λ x. IsOf request_form (length ts) x (a_request r)) (sym (append-nil ts)) s)
 
 exclusive : (line : List ℕ) (r : Request) (o : ℕ) → LineSpells line r → IsFault line o → ⊥
 exclusive line r o s f = by_sides (aligned (skip line) f.before s.0 f.left [] f.leads s.1)
@@ -58,22 +59,28 @@ exclusive line r o s f = by_sides (aligned (skip line) f.before s.0 f.left [] f.
 
     shorter_side : (more : List Token) → f.before ≡ s.0 ++ more → LeadsTo [] more f.left → ⊥
     shorter_side [] i l = f.early (sym l) r (subst (λ x. Spells x r) (sym (i ∙ append-nil s.0)) s.2)
-    shorter_side (k ∷ more) i l = no_token_at_end [] k l.0 refl l.1
+    shorter_side (k ∷ more) i l = none_at_end [] k l.0 refl l.1
 
     by_sides : Either f.before s.0 f.left [] → ⊥
     by_sides (longer a) = longer_side a.more a.is a.leads
     by_sides (shorter a) = shorter_side a.more a.is a.leads
 
+given_request : {r q : Request} → a_request r ≡ a_request q → r ≡ q
+given_request e = cc
+
+pub one_request : (ts : List Token) (r q : Request) → Spells ts r → Spells ts q → r ≡ q
+one_request ts r q a b = given_request (one IsRequest nothing ts request_form (a_request r) (a_request q) requests_keep a b)
+
 one_line : (line : List ℕ) (r q : Request) → LineSpells line r → LineSpells line q → r ≡ q
 one_line line r q a b = by_sides (aligned (skip line) a.0 b.0 [] [] a.1 b.1)
   where
     same : (ts us more : List Token) → us ≡ ts ++ more → LeadsTo [] more [] → Spells ts r → Spells us q → r ≡ q
-    same ts us [] i l x y = one request_form ts r q requests_keep x (subst (λ z. Spells z q) (i ∙ append-nil ts) y)
-    same ts us (k ∷ more) i l x y = absurd (no_token_at_end [] k l.0 refl l.1)
+    same ts us [] i l x y = one_request ts r q x (subst (λ z. Spells z q) (i ∙ append-nil ts) y)
+    same ts us (k ∷ more) i l x y = absurd (none_at_end [] k l.0 refl l.1)
 
     other : (ts us more : List Token) → us ≡ ts ++ more → LeadsTo [] more [] → Spells ts q → Spells us r → r ≡ q
-    other ts us [] i l x y = one request_form ts r q requests_keep (subst (λ z. Spells z r) (i ∙ append-nil ts) y) x
-    other ts us (k ∷ more) i l x y = absurd (no_token_at_end [] k l.0 refl l.1)
+    other ts us [] i l x y = one_request ts r q (subst (λ z. Spells z r) (i ∙ append-nil ts) y) x
+    other ts us (k ∷ more) i l x y = absurd (none_at_end [] k l.0 refl l.1)
 
     by_sides : Either a.0 b.0 [] [] → r ≡ q
     by_sides (longer e) = same a.0 b.0 e.more e.is e.leads a.2 b.2
@@ -116,21 +123,28 @@ unfolding skip
 skip_least line = omega (arith, length-drop {A = ℕ})
 
 -- what the reading answers
-spelled : (line : List ℕ) (r : Request) → read_form request_form (skip line) ≡ whole r → LineSpells line r
-spelled line r e = let x = whole_as request_form (skip line) r e in (x.tokens, x.leads, x.is)
+spelled : (line : List ℕ) (v : Given) → read_form request_form (skip line) ≡ whole v → (r : Request) × (v ≡ a_request r) × LineSpells line r
+unfolding read_form
+spelled line v e =
+    let x = whole_as IsRequest nothing (length (skip line)) request_form (skip line) v requests_keep e in
+    (x.fine.0, x.fine.1, (x.tokens, x.leads, subst (IsOf request_form (length x.tokens) x.tokens) x.fine.1 x.is))
 
 faulty : (line left : List ℕ) → read_form request_form (skip line) ≡ stops left → IsFault line (length line - length left)
+unfolding read_form
 faulty line left e =
-    let x = stops_as request_form (skip line) left requests_keep e in
+    let x = stops_as IsRequest nothing (length (skip line)) request_form (skip line) left requests_keep (omega arith) e in
     let a = left_least (skip line) x.before left x.leads in
     let b = skip_least line in
     record {
       before = x.before;
       left = left;
       leads = x.leads;
-      goes = (x.goes.rest, x.goes.request, x.goes.is);
-      stuck = λ t behind y c. x.stuck (t ∷ c.0) c.1 (behind, y) (subst (λ z. Spells z c.1) (append_assoc x.before (t ∷ []) c.0) c.2);
-      early = λ y r s. x.stuck [] r y (subst (λ z. Spells z r) (sym (append-nil x.before)) s);
+      goes = (length x.before, omega arith, x.rest, x.fine.0, subst (IsOf request_form (length x.before) (x.before ++ x.rest)) x.fine.1 x.goes);
+      stuck = λ t behind y c.
+          let l = length-append x.before (t ∷ []) in
+          let m = c.1 in
+          x.stuck t behind y c.0 c.2 (a_request c.3) (omega arith) (subst (λ z. IsOf request_form c.0 z (a_request c.3)) (append_assoc x.before (t ∷ []) c.2) c.4);
+      early = λ y r s. x.early y (length x.before) (a_request r) (omega arith) s;
       place = omega arith;
     }
 
@@ -144,7 +158,7 @@ unfolding reading
 answer line = go (read_form request_form (skip line)) refl
   where
     go : (e : Ending) → read_form request_form (skip line) ≡ e → Answer line (told line e)
-    go (whole r) e = good r refl (spelled line r e)
+    go (whole v) e = let s = spelled line v e in subst (λ w. Answer line (asked line w)) (sym s.1) (good s.0 refl s.2)
     go (stops left) e = bad (length line - length left) refl (faulty line left e)
 
 reads_is : {r q : Request} → reads r ≡ reads q → r ≡ q
@@ -174,9 +188,6 @@ faults_exactly line o = (there (answer line), back (answer line))
     back : Answer line (reading line) → IsFault line o → reading line ≡ fault o
     back (good q e s) h = absurd (exclusive line q o s h)
     back (bad p e f) h = e ∙ ap fault (one_fault line p o f h)
-
-pub one_request : (ts : List Token) (r q : Request) → Spells ts r → Spells ts q → r ≡ q
-one_request ts r q a b = one request_form ts r q requests_keep a b
 
 -- what the reader's answers say
 

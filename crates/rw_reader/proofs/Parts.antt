@@ -1,40 +1,33 @@
 -- One token of a form, read from a place on.
-use Rattle.std.proofs.Common.{◌≡◌, ℕ, ◌<◌, ◌≤◌, arith, length-drop, Bool, true, false, cond, List, [], ◌∷◌, length, drop, Some, None, IsTrue, refl, sym, ap, ◌∙◌, subst}
-use Rattle.std.specs.Prelude.{◌&&◌}
+use Rattle.std.proofs.Common.{◌≡◌, ℕ, ◌<◌, ◌≤◌, arith, length-drop, Bool, true, false, cond, List, [], ◌∷◌, length, drop, Option, Some, None, IsTrue, refl, sym, ap, ◌∙◌, subst}
+use Rattle.std.specs.Prelude.{◌&&◌, option_map}
 use Rattle.rw_terms.specs.Names.{is_name}
-use Rattle.rw_terms.specs.declared.term.Term.TheVariants as terms
 use Rattle.std.proofs.lemmas.List.{drop_all}
-use Rattle.rw_reader.specs.declared.request.Request.{Request}
 use Rattle.rw_reader.specs.declared.request.ReadError.{ReadError}
 use Rattle.rw_reader.specs.declared.request.ReadError.TheVariants.{Syntax}
 use Rattle.rw_reader.specs.Tokens.{Token, token_at}
-use Rattle.rw_reader.specs.Forms.{Slot, Filled, filled, is_text, is_lower, is_variable, named_operand, Form, gives, takes, either}
-use Rattle.rw_reader.specs.Reading.{Ending, whole, stops, at_end, fitted, slot_read, choice_read, read_form}
+use Rattle.rw_reader.specs.Forms.{Slot, Filled, filled, is_text, is_lower, is_variable, Given, Form, gives, takes, either}
+use Rattle.rw_reader.specs.Reading.{after, Ending, whole, stops, ended, token_read, read_within, read_form}
+use Rattle.rw_reader.proofs.Endings.{same_token, open_form, one_token, stuck_form, alike}
 use Rattle.rw_reader.specs.Progress.{IsPlace, StopsAt}
 
 pub none_stops : (s : Slot) (here : List ℕ) → token_at here ≡ None → (k : Filled s → Form) → read_form (takes s k) here ≡ stops here
-unfolding read_form
-none_stops s here e k = ap (slot_read s here (λ v. read_form (k v))) e
+none_stops s here e k = stuck_form (takes s k) here (λ z. refl) (λ t there z. absurd (cc (e, z)))
 
-pub misfit_stops : (s : Slot) (here : List ℕ) (t : Token) (behind : List ℕ) → token_at here ≡ Some (t, behind) → filled s t ≡ None → (k : Filled s → Form) → read_form (takes s k) here ≡ stops here
-unfolding read_form
-misfit_stops s here t behind e f k = ap (slot_read s here (λ v. read_form (k v))) e ∙ ap (fitted here (λ v. read_form (k v) behind)) f
+pub misfit_stops : (s : Slot) (here : List ℕ) (t : Token) (there : List ℕ) → token_at here ≡ Some (t, there) → filled s t ≡ None → (k : Filled s → Form) → read_form (takes s k) here ≡ stops here
+misfit_stops s here t there e f k = stuck_form (takes s k) here (λ z. refl) (λ u other z. let same : t ≡ u = ap (λ x. x.0) (same_token (sym e ∙ z)) in ap (option_map k) (ap (filled s) (sym same) ∙ f))
 
-pub fits_goes : (s : Slot) (here : List ℕ) (t : Token) (behind : List ℕ) (x : Filled s) → token_at here ≡ Some (t, behind) → filled s t ≡ Some x → (k : Filled s → Form) → read_form (takes s k) here ≡ read_form (k x) behind
-unfolding read_form
-fits_goes s here t behind x e f k = ap (slot_read s here (λ v. read_form (k v))) e ∙ ap (fitted here (λ v. read_form (k v) behind)) f
+pub fits_goes : (s : Slot) (here : List ℕ) (t : Token) (there : List ℕ) (x : Filled s) → token_at here ≡ Some (t, there) → filled s t ≡ Some x → (k : Filled s → Form) → read_form (takes s k) here ≡ read_form (k x) there
+fits_goes s here t there x e f k = one_token (takes s k) (k x) here there t e (ap (option_map k) f)
 
 pub none_other : (w here : List ℕ) → token_at here ≡ None → (f g : Form) → read_form (either w f g) here ≡ read_form (cond false f g) here
-unfolding read_form
-none_other w here e f g = ap (choice_read w (read_form f) (read_form g here)) e
+none_other w here e f g = alike (either w f g) g here refl (λ t there z. absurd (cc (e, z)))
 
-pub other_goes : (w here : List ℕ) (t : Token) (behind : List ℕ) → token_at here ≡ Some (t, behind) → is_text w t ≡ false → (f g : Form) → read_form (either w f g) here ≡ read_form (cond false f g) here
-unfolding read_form
-other_goes w here t behind e n f g = ap (choice_read w (read_form f) (read_form g here)) e ∙ ap (λ b. cond b (read_form f behind) (read_form g here)) n
+pub other_goes : (w here : List ℕ) (t : Token) (there : List ℕ) → token_at here ≡ Some (t, there) → is_text w t ≡ false → (f g : Form) → read_form (either w f g) here ≡ read_form (cond false f g) here
+other_goes w here t there e n f g = alike (either w f g) g here refl (λ u other z. let same : t ≡ u = ap (λ x. x.0) (same_token (sym e ∙ z)) in ap (λ b. cond b (Some f) (after g u)) (ap (is_text w) (sym same) ∙ n))
 
-pub word_goes : (w here : List ℕ) (t : Token) (behind : List ℕ) → token_at here ≡ Some (t, behind) → is_text w t ≡ true → (f g : Form) → read_form (either w f g) here ≡ read_form (cond true f g) behind
-unfolding read_form
-word_goes w here t behind e n f g = ap (choice_read w (read_form f) (read_form g here)) e ∙ ap (λ b. cond b (read_form f behind) (read_form g here)) n
+pub word_goes : (w here : List ℕ) (t : Token) (there : List ℕ) → token_at here ≡ Some (t, there) → is_text w t ≡ true → (f g : Form) → read_form (either w f g) here ≡ read_form (cond true f g) there
+word_goes w here t there e n f g = one_token (either w f g) f here there t e (ap (λ b. cond b (Some f) (after g t)) n)
 
 -- the fault is where the token stands
 pub stops_here : {A : Type 0} (part : (A → Form) → Form) (line : List ℕ) (at : ℕ) (e : ReadError) → e ≡ Syntax at → at ≤ length line → ((k : A → Form) → read_form (part k) (drop at line) ≡ stops (drop at line)) → (k : A → Form) → StopsAt line e (read_form (part k) (drop at line))
@@ -56,36 +49,31 @@ no_variable w n = go (is_name w) n
     go true h = absurd (h refl)
     go false h = refl
 
--- what a name is as an operand
-pub operand_is : (w : List ℕ) → IsTrue (is_name w) → (b : Bool) → is_lower w ≡ b → named_operand w ≡ Some (cond b (terms.Var w) (terms.Const w))
-operand_is w n b e = ap (λ x. cond x (Some (cond (is_lower w) (terms.Var w) (terms.Const w))) None) n ∙ ap (λ x. Some (cond x (terms.Var w) (terms.Const w))) e
-
-pub no_operand : (w : List ℕ) → ¬ (IsTrue (is_name w)) → named_operand w ≡ None
-no_operand w n = go (is_name w) n
-  where
-    go : (b : Bool) → ¬ (IsTrue b) → cond b (Some (cond (is_lower w) (terms.Var w) (terms.Const w))) None ≡ None
-    go true h = absurd (h refl)
-    go false h = refl
-
 -- the end
 
-rest_of : (line : List ℕ) (at : ℕ) → at < length line → 0 < length (drop at line)
-rest_of line at h = omega (arith, length-drop at line)
+rest_of_line : (line : List ℕ) (at : ℕ) → at < length line → 0 < length (drop at line)
+rest_of_line line at h = omega (arith, length-drop at line)
 
-pub end_stops : (r : Request) (line : List ℕ) (at : ℕ) → at < length line → read_form (gives r) (drop at line) ≡ stops (drop at line)
-unfolding read_form
-end_stops r line at h = go (drop at line) (rest_of line at h)
+pub end_stops : (v : Given) (line : List ℕ) (at : ℕ) → at < length line → read_form (gives v) (drop at line) ≡ stops (drop at line)
+end_stops v line at h = open_form (gives v) (drop at line) ∙ by_token (token_at (drop at line))
   where
-    go : (l : List ℕ) → 0 < length l → at_end r l ≡ stops l
-    go [] n = absurd (omega arith)
-    go (b ∷ bs) n = refl
+    not_empty : (l : List ℕ) → 0 < length l → ended (gives v) l ≡ stops l
+    not_empty [] n = absurd (omega arith)
+    not_empty (b ∷ bs) n = refl
 
-pub end_is : (r : Request) (line : List ℕ) (at : ℕ) → length line ≤ at → read_form (gives r) (drop at line) ≡ whole r
-unfolding read_form
-end_is r line at h = ap (at_end r) (drop_all at line h)
+    by_token : (o : Option (Token × List ℕ)) → token_read (gives v) (drop at line) (read_within (length (drop at line))) o ≡ stops (drop at line)
+    by_token None = not_empty (drop at line) (rest_of_line line at h)
+    by_token (Some p) = refl
 
-pub stops_end : (line : List ℕ) (at : ℕ) (e : ReadError) → e ≡ Syntax at → at ≤ length line → at < length line → (r : Request) → StopsAt line e (read_form (gives r) (drop at line))
-stops_end line at e is within h r = subst (λ x. StopsAt line x (read_form (gives r) (drop at line))) (sym is) (within, end_stops r line at h)
+at_end : (v : Given) → read_form (gives v) [] ≡ whole v
+unfolding read_form read_within
+at_end v = refl
+
+pub end_is : (v : Given) (line : List ℕ) (at : ℕ) → length line ≤ at → read_form (gives v) (drop at line) ≡ whole v
+end_is v line at h = ap (read_form (gives v)) (drop_all at line h) ∙ at_end v
+
+pub stops_end : (line : List ℕ) (at : ℕ) (e : ReadError) → e ≡ Syntax at → at ≤ length line → at < length line → (v : Given) → StopsAt line e (read_form (gives v) (drop at line))
+stops_end line at e is within h v = subst (λ x. StopsAt line x (read_form (gives v) (drop at line))) (sym is) (within, end_stops v line at h)
 
 -- an ending that another is
 pub carried : (line : List ℕ) (e : ReadError) {a b : Ending} → a ≡ b → StopsAt line e b → StopsAt line e a

@@ -1,5 +1,5 @@
 -- A token takes bytes, so that reading ends.
-use Rattle.std.proofs.Common.{◌≡◌, ℕ, suc, ◌+◌, ◌-◌, ◌≤◌, ◌<◌, Bool, true, false, cond, List, [], ◌∷◌, length, drop, take, Option, Some, None, refl, sym, ap, ◌∙◌, arith, length-drop}
+use Rattle.std.proofs.Common.{◌≡◌, ℕ, ◌+◌, ◌≤◌, ◌<◌, Bool, true, false, cond, List, [], ◌∷◌, length, drop, take, Option, Some, None, refl, ap, arith, length-drop}
 use Rattle.std.specs.Prelude.{leb, eqb, ◌||◌, option_map}
 use Rattle.std.specs.List.{prefix_len}
 use Rattle.rw_terms.specs.Names.{is_letter, is_digit, goes_on}
@@ -69,3 +69,7 @@ shortens here t behind e = go (front_token here) refl e
         let b = length-drop p.1 here in
         let c : length (skip (drop p.1 here)) ≡ length behind = ap length same in
         omega arith
+
+-- the next token stands further on
+pub moves_on : (line : List ℕ) (at next : ℕ) (t : Token) → token_at (drop at line) ≡ Some (t, drop next line) → at < next
+moves_on line at next t e = let a = shortens (drop at line) t (drop next line) e in let b = length-drop at line in let c = length-drop next line in omega arith

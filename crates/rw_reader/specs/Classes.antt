@@ -1,5 +1,5 @@
 -- What tokens are to terms and formulas.
-use Rattle.std.specs.Prelude.{◌≡◌, ℕ, ◌-◌, Bool, true, false, ◌&&◌, cond, List, [], ◌∷◌, length, take, Option, Some, None, option_map, codes, bytes_eq}
+use Rattle.std.specs.Prelude.{◌≡◌, ℕ, ◌-◌, true, false, ◌&&◌, cond, List, [], ◌∷◌, length, take, Option, Some, None, codes, bytes_eq}
 use Rattle.rw_terms.specs.Names.{is_name, ends_with_0}
 use Rattle.rw_syntax.specs.declared.token.Infix.TheVariants as infixes
 use Rattle.rw_syntax.specs.declared.token.Quantifier.TheVariants as quantifiers

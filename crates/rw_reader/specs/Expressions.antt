@@ -8,11 +8,11 @@ use Rattle.rw_reader.specs.Classes.{AreClasses}
 
 -- tokens spell a value of a level, 1 for formulas and 6 for terms, with a nest within 512
 abbrev pub TokensSpell : ℕ → List Token → Part → Type 0
-TokensSpell goal ts v = (cs : List Class) × AreClasses ts cs × Spells goal cs v
+TokensSpell goal ts v = (cs : List Class) × AreClasses ts cs × Spells 512 goal cs v
 
 -- some tokens that begin with these spell a value, with a nest within 512 at these
 abbrev pub TokensGoOn : ℕ → List Token → Type 0
-TokensGoOn goal ts = (cs : List Class) × AreClasses ts cs × CanGoOn goal cs
+TokensGoOn goal ts = (cs : List Class) × AreClasses ts cs × CanGoOn 512 goal cs
 
 -- a text's tokens spell a value
 abbrev pub TextSpells : ℕ → List ℕ → Part → Type 0

@@ -1,20 +1,25 @@
 -- The grammar of requests: a request is of a form, which says what stands where. A new request is a new form.
-use Rattle.std.specs.Prelude.{◌≡◌, ℕ, Bool, false, ◌&&◌, cond, leb, List, [], ◌∷◌, Option, Some, None, codes, bytes_eq, ◌⊎◌, pos}
+use Rattle.std.specs.Prelude.{◌≡◌, ℕ, zero, suc, ◌+◌, Bool, false, ◌&&◌, cond, leb, List, [], ◌∷◌, ◌++◌, length, map, take, Option, Some, None, IsTrue, codes, bytes_eq, ◌⊎◌}
 use Rattle.rw_terms.specs.Names.{is_name}
+use Rattle.rw_terms.specs.declared.term.Sort.{Sort}
 use Rattle.rw_terms.specs.declared.term.Sort.TheVariants as sorts
-use Rattle.rw_terms.specs.declared.term.Term.{Term}
-use Rattle.rw_terms.specs.declared.term.Term.TheVariants as terms
 use Rattle.rw_terms.specs.declared.term.Formula.{Formula}
-use Rattle.rw_terms.specs.declared.term.Formula.TheVariants as formulas
+use Rattle.rw_programs.specs.declared.prog.Spec.{Spec}
+use Rattle.rw_sequents.specs.declared.line.CertLine.{CertLine}
 use Rattle.rw_sequents.specs.declared.line.CertLine.TheVariants as lines
 use Rattle.rw_laws.specs.declared.step.BasicStep.TheVariants as laws
 use Rattle.rw_tree.specs.declared.edit.TreeName.TheVariants as trees
 use Rattle.rw_tree.specs.declared.edit.Place.{Place}
 use Rattle.rw_tree.specs.declared.edit.Step.TheVariants as steps
 use Rattle.rw_tree.specs.declared.edit.Edit.TheVariants as edits
+use Rattle.rw_syntax.specs.declared.token.Token.{Token as Class}
+use Rattle.rw_syntax.specs.declared.frame.Part.{Part}
+use Rattle.rw_syntax.specs.Grammar.{Tree, level, fits, IsFormed, part, nests, as_formula, text as tree_text}
+use Rattle.rw_syntax.specs.Spelling.{AreWithin}
 use Rattle.rw_reader.specs.declared.request.Request.{Request}
 use Rattle.rw_reader.specs.declared.request.Request.TheVariants as requests
 use Rattle.rw_reader.specs.Tokens.{Token, text, number, binder}
+use Rattle.rw_reader.specs.Classes.{AreClasses}
 
 -- what one token may be
 pub data Slot : Type 0 where
@@ -22,17 +27,14 @@ pub data Slot : Type 0 where
   exactly : List ℕ → Slot
   -- a name that begins with a lower-case letter
   a_variable : Slot
-  -- a number that is at most this
-  a_number : ℕ → Slot
-  -- a number or a name
-  an_operand : Slot
+  -- a number from the one to the other
+  a_number : ℕ → ℕ → Slot
 
 -- what a slot's token says
 abbrev pub Filled : Slot → Type 0
 Filled (exactly w) = Unit {0}
 Filled a_variable = List ℕ
-Filled (a_number most) = ℕ
-Filled an_operand = Term
+Filled (a_number least most) = ℕ
 
 abbrev pub is_lower : List ℕ → Bool
 is_lower [] = false
@@ -53,82 +55,178 @@ variable_of (text w) = cond (is_variable w) (Some w) None
 variable_of (number n) = None
 variable_of (binder n) = None
 
-abbrev pub number_within : ℕ → Token → Option ℕ
-number_within most (text w) = None
-number_within most (number n) = cond (leb n most) (Some n) None
-number_within most (binder n) = None
-
--- a variable begins with a lower-case letter, a constant with an upper-case one
-abbrev pub named_operand : List ℕ → Option Term
-named_operand w = cond (is_name w) (Some (cond (is_lower w) (terms.Var w) (terms.Const w))) None
-
-abbrev pub operand_of : Token → Option Term
-operand_of (text w) = named_operand w
-operand_of (number n) = cond (leb n 170141183460469231731687303715884105727) (Some (terms.Lit (pos n))) None
-operand_of (binder n) = None
+abbrev pub number_within : ℕ → ℕ → Token → Option ℕ
+number_within least most (text w) = None
+number_within least most (number n) = cond (leb least n && leb n most) (Some n) None
+number_within least most (binder n) = None
 
 -- what a token in a slot says, where it may stand there
 abbrev pub filled : (s : Slot) → Token → Option (Filled s)
 filled (exactly w) t = cond (is_text w t) (Some tt) None
 filled a_variable t = variable_of t
-filled (a_number most) t = number_within most t
-filled an_operand t = operand_of t
+filled (a_number least most) t = number_within least most t
 
--- what is still to be read of a request, and the request
+-- what a form gives: a request, or an item of a list
+pub data Given : Type 0 where
+  a_request : Request → Given
+  a_name : List ℕ → Given
+  a_line : CertLine → Given
+
+-- what is still to be read, and what is given then
 pub data Form : Type 0 where
-  -- nothing, and the request is this
-  gives : Request → Form
+  -- nothing, and this is given
+  gives : Given → Form
   -- a token, and what is to follow it
   takes : (s : Slot) → (Filled s → Form) → Form
   -- what follows this word or symbol, or else another form
   either : List ℕ → Form → Form → Form
+  -- The rest of a value of a level, 1 for formulas and 6 for terms, behind its tokens so far, and what is to follow it.
+  -- Its own nest stays within `most`: 512, less the brackets that are open round it.
+  rest_of : (most goal : ℕ) → List Class → (Part → Form) → Form
+  -- The rest of a list behind its items so far: items of a form, each behind this word or symbol, and what is to
+  -- follow the list.
+  more_of : Form → List ℕ → List Given → (List Given → Form) → Form
+
+-- a form, and what is to follow what it gives
+abbrev pub followed : Form → (Given → Form) → Form
+followed (gives g) j = j g
+followed (takes s k) j = takes s (λ x. followed (k x) j)
+followed (either w f g) j = either w (followed f j) (followed g j)
+followed (rest_of most goal done k) j = rest_of most goal done (λ v. followed (k v) j)
+followed (more_of item sep done k) j = more_of item sep done (λ gs. followed (k gs) j)
+
+-- one item or more, with a word or a symbol between them
+abbrev pub many : Form → List ℕ → (List Given → Form) → Form
+many item sep k = followed item (λ g. more_of item sep (g ∷ []) k)
+
+-- one less
+abbrev pub fewer : ℕ → ℕ
+fewer zero = zero
+fewer (suc n) = n
+
+-- what is left of a number behind so many tokens
+abbrev pub behind : ℕ → List Token → ℕ
+behind n [] = n
+behind n (t ∷ ts) = behind (fewer n) ts
 
 -- a token and what follows it
-pub record Follows (s : Slot) (Rest : Filled s → List Token → Request → Type 0) (ts : List Token) (q : Request) : Type 0 where
+pub record Follows (s : Slot) (Rest : Filled s → ℕ → List Token → Given → Type 0) (n : ℕ) (ts : List Token) (v : Given) : Type 0 where
   pub first : Token
   pub rest : List Token
   pub filling : Filled s
   pub tokens_are : ts ≡ first ∷ rest
   pub fills : filled s first ≡ Some filling
-  pub more : Rest filling rest q
+  pub more : Rest filling (fewer n) rest v
 
--- tokens are of a form, and are this request
-abbrev pub IsOf : Form → List Token → Request → Type 0
-IsOf (gives r) ts q = (ts ≡ []) × (q ≡ r)
-IsOf (takes s k) ts q = Follows s (λ v. IsOf (k v)) ts q
-IsOf (either w f g) ts q = ((rest : List Token) × (ts ≡ text w ∷ rest) × IsOf f rest q) ⊎ IsOf g ts q
+-- the rest of a value and what follows it
+pub record Spans (most goal : ℕ) (done : List Class) (Rest : Part → ℕ → List Token → Given → Type 0) (n : ℕ) (ts : List Token) (v : Given) : Type 0 where
+  pub own : List Token
+  pub rest : List Token
+  pub classes : List Class
+  pub tree : Tree
+  pub tokens_are : ts ≡ own ++ rest
+  pub are : AreClasses own classes
+  pub formed : IsFormed [] tree
+  pub fit : IsTrue (fits goal (level tree))
+  pub written : tree_text tree ≡ done ++ classes
+  pub within : AreWithin most (take (length done + n) (nests 0 tree))
+  pub more : Rest (part [] tree) (behind n own) rest v
+
+-- items of a list, each behind the separator
+abbrev pub AreItems : (ℕ → List Token → Given → Type 0) → List ℕ → ℕ → List Given → List Token → Type 0
+AreItems Item sep n [] ts = ts ≡ []
+AreItems Item sep n (g ∷ gs) ts = (own : List Token) × (rest : List Token) × (ts ≡ text sep ∷ (own ++ rest)) × Item (fewer n) own g × AreItems Item sep (behind (fewer n) own) gs rest
+
+-- the rest of a list and what follows it
+pub record Lists (Item : ℕ → List Token → Given → Type 0) (sep : List ℕ) (Rest : List Given → ℕ → List Token → Given → Type 0) (n : ℕ) (ts : List Token) (v : Given) : Type 0 where
+  pub items : List Given
+  pub own : List Token
+  pub rest : List Token
+  pub tokens_are : ts ≡ own ++ rest
+  pub are : AreItems Item sep n items own
+  pub more : Rest items (behind n own) rest v
+
+-- Tokens are of a form, and give this. The nest is within its bound at the first n of them.
+abbrev pub IsOf : Form → ℕ → List Token → Given → Type 0
+IsOf (gives g) n ts v = (ts ≡ []) × (v ≡ g)
+IsOf (takes s k) n ts v = Follows s (λ x. IsOf (k x)) n ts v
+IsOf (either w f g) n ts v = ((rest : List Token) × (ts ≡ text w ∷ rest) × IsOf f (fewer n) rest v) ⊎ IsOf g n ts v
+IsOf (rest_of most goal done k) n ts v = Spans most goal done (λ w. IsOf (k w)) n ts v
+IsOf (more_of item sep done k) n ts v = Lists (IsOf item) sep (λ gs. IsOf (k (done ++ gs))) n ts v
 
 -- a word or a symbol, and what is to follow it
 abbrev pub mark : List ℕ → Form → Form
 mark w f = takes (exactly w) (λ _. f)
 
--- two operands with `=` between them
-abbrev pub equation : (Formula → Form) → Form
-equation k = takes an_operand (λ t. mark (codes "=") (takes an_operand (λ u. k (formulas.Eq t u))))
+-- `int`, or `array` and a length
+unfoldable pub sort : (Sort → Form) → Form
+sort k = either (codes "int") (k sorts.Int) (mark (codes "array") (takes (a_number 1 1024) (λ n. k (sorts.Array n))))
 
--- an atom: `true`, `false` or an equation
-unfoldable pub atom : (Formula → Form) → Form
-atom k = either (codes "true") (k formulas.True) (either (codes "false") (k formulas.False) (equation k))
+-- a formula whose own nest is within `most`
+unfoldable pub formula : ℕ → (Formula → Form) → Form
+formula most k = rest_of most 1 [] (λ v. k (as_formula v))
+
+-- a variable as an item
+unfoldable pub name_form : Form
+name_form = takes a_variable (λ x. gives (a_name x))
+
+abbrev pub name_in : Given → List ℕ
+name_in (a_request r) = []
+name_in (a_name x) = x
+name_in (a_line l) = []
+
+-- NAME { , NAME }
+unfoldable pub names : (List (List ℕ) → Form) → Form
+names k = many name_form (codes ",") (λ gs. k (map name_in gs))
+
+-- a frame and a colon; an empty frame is written as nothing
+unfoldable pub frame : (List (List ℕ) → Form) → Form
+frame k = either (codes ":") (k []) (names (λ xs. mark (codes ":") (k xs)))
+
+-- [ FORM , FORM ] behind a frame
+abbrev pub bracketed : List (List ℕ) → (Spec → Form) → Form
+bracketed xs k = mark (codes "[") (formula 511 (λ f. mark (codes ",") (formula 511 (λ g. mark (codes "]") (k (record { frame = xs; pre = f; post = g }))))))
+
+-- FRAME [ FORM , FORM ]
+unfoldable pub spec : (Spec → Form) → Form
+spec k = frame (λ xs. bracketed xs k)
 
 abbrev pub main_tree : Place
 main_tree = record { tree = trees.Main; path = record { kids = [] } }
 
--- var NAME : int
+-- NAME : SORT
 unfoldable pub var_form : Form
-var_form = takes a_variable (λ x. mark (codes ":") (mark (codes "int") (gives (requests.Edit (edits.Var (record { name = x; sort = sorts.Int }))))))
+var_form = takes a_variable (λ x. mark (codes ":") (sort (λ s. gives (a_request (requests.Edit (edits.Var (record { name = x; sort = s })))))))
 
--- root NAME : [ATOM, ATOM]
+-- SPEC
 unfoldable pub root_form : Form
-root_form = takes a_variable (λ x. mark (codes ":") (mark (codes "[") (atom (λ f. mark (codes ",") (atom (λ g. mark (codes "]") (gives (requests.Edit (edits.Root (record { frame = x ∷ []; pre = f; post = g }))))))))))
+root_form = spec (λ s. gives (a_request (requests.Edit (edits.Root s))))
 
--- step main skip
+-- main skip
 unfoldable pub step_form : Form
-step_form = mark (codes "main") (mark (codes "skip") (gives (requests.Edit (edits.Step main_tree (steps.Basic laws.Skip)))))
+step_form = mark (codes "main") (mark (codes "skip") (gives (a_request (requests.Edit (edits.Step main_tree (steps.Basic laws.Skip))))))
 
--- prove main NUMBER ax
+-- a rule and its arguments
+unfoldable pub rule : (CertLine → Form) → Form
+rule k = mark (codes "ax") (k lines.Ax)
+
+-- a line of a certificate as an item
+unfoldable pub line_form : Form
+line_form = rule (λ l. gives (a_line l))
+
+abbrev pub line_in : Given → CertLine
+line_in (a_request r) = lines.Ax
+line_in (a_name x) = lines.Ax
+line_in (a_line l) = l
+
+-- LINE { ; LINE }
+unfoldable pub cert : (List CertLine → Form) → Form
+cert k = many line_form (codes ";") (λ gs. k (map line_in gs))
+
+-- main NUMBER CERT
 unfoldable pub prove_form : Form
-prove_form = mark (codes "main") (takes (a_number 4294967295) (λ n. mark (codes "ax") (gives (requests.Edit (edits.Prove main_tree n (record { lines = lines.Ax ∷ [] }))))))
+prove_form = mark (codes "main") (takes (a_number 0 4294967295) (λ n. cert (λ ls. gives (a_request (requests.Edit (edits.Prove main_tree n (record { lines = ls })))))))
 
 -- every request
 unfoldable pub request_form : Form
-request_form = either (codes "var") var_form (either (codes "root") root_form (either (codes "step") step_form (either (codes "prove") prove_form (mark (codes "status") (gives requests.Status)))))
+request_form = either (codes "var") var_form (either (codes "root") root_form (either (codes "step") step_form (either (codes "prove") prove_form (mark (codes "status") (gives (a_request requests.Status))))))

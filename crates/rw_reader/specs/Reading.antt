@@ -1,16 +1,22 @@
 -- What a line's tokens spell, where its fault is, and what is read.
-use Rattle.std.specs.Prelude.{◌≡◌, ℕ, ◌+◌, ◌-◌, cond, List, [], ◌∷◌, ◌++◌, length, Option, Some, None}
+use Rattle.std.specs.Prelude.{◌≡◌, ℕ, zero, suc, ◌+◌, ◌-◌, ◌≤◌, Bool, true, cond, List, [], ◌∷◌, ◌++◌, length, Option, Some, None, option_map, option_and_then}
+use Rattle.rw_syntax.specs.declared.token.Token.{Token as Class}
+use Rattle.rw_syntax.specs.declared.frame.Part.{Part}
+use Rattle.rw_syntax.specs.Machine.{run_within, finish}
+use Rattle.rw_syntax.specs.declared.state.State.TheVariants.{Wants as wants}
+use Rattle.rw_syntax.specs.Stops.{stops_at}
 use Rattle.rw_reader.specs.declared.request.Request.{Request}
 use Rattle.rw_reader.specs.Tokens.{Token, skip, token_at, LeadsTo}
-use Rattle.rw_reader.specs.Forms.{Slot, Filled, filled, is_text, Form, gives, takes, either, IsOf, request_form}
+use Rattle.rw_reader.specs.Classes.{class_of}
+use Rattle.rw_reader.specs.Forms.{filled, is_text, Given, a_request, a_name, a_line, Form, gives, takes, either, rest_of, more_of, followed, IsOf, request_form}
 
--- tokens spell a request
+-- tokens spell a request, with a nest within 512
 abbrev pub Spells : List Token → Request → Type 0
-Spells ts r = IsOf request_form ts r
+Spells ts r = IsOf request_form (length ts) ts (a_request r)
 
--- some tokens that begin with these spell a request
+-- some tokens that begin with these spell a request, with a nest within 512 at these
 abbrev pub CanGoOn : List Token → Type 0
-CanGoOn ts = (rest : List Token) × (r : Request) × Spells (ts ++ rest) r
+CanGoOn ts = (n : ℕ) × (length ts ≤ n) × (rest : List Token) × (r : Request) × IsOf request_form n (ts ++ rest) (a_request r)
 
 -- a line's tokens spell a request
 abbrev pub LineSpells : List ℕ → Request → Type 0
@@ -27,33 +33,74 @@ pub record IsFault (line : List ℕ) (offset : ℕ) : Type 0 where
   pub early : left ≡ [] → (r : Request) → ¬ (Spells before r)
   pub place : offset + length left ≡ length line
 
+-- the value that tokens are
+abbrev pub value_of : ℕ → ℕ → List Class → Option Part
+value_of most goal done = option_and_then (finish goal) (run_within most goal (wants []) done)
+
+-- one more token of a value, where the machine goes on with it
+abbrev pub one_more : ℕ → ℕ → List Class → Class → Option (List Class)
+one_more most goal done c = option_map (λ _. done ++ c ∷ []) (run_within most goal (wants []) (done ++ c ∷ []))
+
+-- Whether a token ends a value: it stands in none, or a whole value does not go on with it.
+abbrev pub ends_class : Option Class → Bool
+ends_class None = true
+ends_class (Some c) = stops_at c
+
+abbrev pub ends_value : Token → Bool
+ends_value t = ends_class (class_of t)
+
+-- what is left of a value that goes on, or else what follows it
+abbrev pub gone_on : (List Class → Form) → Option Form → Option (List Class) → Option Form
+gone_on go other None = other
+gone_on go other (Some done) = Some (go done)
+
+-- what is left of a form behind one token
+abbrev pub after : Form → Token → Option Form
+after (gives g) t = None
+after (takes s k) t = option_map k (filled s t)
+after (either w f g) t = cond (is_text w t) (Some f) (after g t)
+after (rest_of most goal done k) t = gone_on (λ more. rest_of most goal more k) (cond (ends_value t) (option_and_then (λ v. after (k v) t) (value_of most goal done)) None) (option_and_then (one_more most goal done) (class_of t))
+after (more_of item sep done k) t = cond (is_text sep t) (Some (followed item (λ g. more_of item sep (done ++ g ∷ []) k))) (after (k done) t)
+
+-- what a form gives where the tokens end
+abbrev pub given : Form → Option Given
+given (gives g) = Some g
+given (takes s k) = None
+given (either w f g) = given g
+given (rest_of most goal done k) = option_and_then (λ v. given (k v)) (value_of most goal done)
+given (more_of item sep done k) = given (k done)
+
 -- how the reading of a form ends
 pub data Ending : Type 0 where
-  whole : Request → Ending
+  whole : Given → Ending
   -- with the bytes that are left
   stops : List ℕ → Ending
 
-abbrev pub at_end : Request → List ℕ → Ending
-at_end r [] = whole r
-at_end r (b ∷ bs) = stops (b ∷ bs)
+abbrev pub given_or : List ℕ → Option Given → Ending
+given_or here None = stops here
+given_or here (Some v) = whole v
 
-abbrev pub fitted : {A : Type 0} → List ℕ → (A → Ending) → Option A → Ending
-fitted here go None = stops here
-fitted here go (Some v) = go v
+-- where no token stands
+abbrev pub ended : Form → List ℕ → Ending
+ended f [] = given_or [] (given f)
+ended f (b ∷ bs) = stops (b ∷ bs)
 
-abbrev pub slot_read : (s : Slot) → List ℕ → (Filled s → List ℕ → Ending) → Option (Token × List ℕ) → Ending
-slot_read s here go None = stops here
-slot_read s here go (Some p) = fitted here (λ v. go v p.1) (filled s p.0)
+abbrev pub form_read : List ℕ → (Form → Ending) → Option Form → Ending
+form_read here go None = stops here
+form_read here go (Some f) = go f
 
-abbrev pub choice_read : List ℕ → (List ℕ → Ending) → Ending → Option (Token × List ℕ) → Ending
-choice_read w go other None = other
-choice_read w go other (Some p) = cond (is_text w p.0) (go p.1) other
+abbrev pub token_read : Form → List ℕ → (Form → List ℕ → Ending) → Option (Token × List ℕ) → Ending
+token_read f here go None = ended f here
+token_read f here go (Some p) = form_read here (λ g. go g p.1) (after f p.0)
+
+-- a form is read from a place on, so many tokens at most
+unfoldable pub read_within : ℕ → Form → List ℕ → Ending
+read_within zero f here = ended f here
+read_within (suc n) f here = token_read f here (read_within n) (token_at here)
 
 -- a form is read from a place on
 unfoldable pub read_form : Form → List ℕ → Ending
-read_form (gives r) here = at_end r here
-read_form (takes s k) here = slot_read s here (λ v. read_form (k v)) (token_at here)
-read_form (either w f g) here = choice_read w (read_form f) (read_form g here) (token_at here)
+read_form f here = read_within (length here) f here
 
 -- what a line is read as
 pub data Reading : Type 0 where
@@ -61,9 +108,14 @@ pub data Reading : Type 0 where
   -- with its offset
   fault : ℕ → Reading
 
+abbrev pub asked : List ℕ → Given → Reading
+asked here (a_request r) = reads r
+asked here (a_name x) = fault (length here)
+asked here (a_line l) = fault (length here)
+
 abbrev pub told : List ℕ → Ending → Reading
-told line (whole r) = reads r
-told line (stops left) = fault (length line - length left)
+told here (whole v) = asked here v
+told here (stops left) = fault (length here - length left)
 
 unfoldable pub reading : List ℕ → Reading
-reading line = told line (read_form request_form (skip line))
+reading here = told here (read_form request_form (skip here))

@@ -1,6 +1,6 @@
 //! Reads terms and formulas.
 
-ghost use Rattle.std.specs.Prelude.{◌≡◌, ℕ, ◌+◌, ◌≤◌, ◌<◌, ◌⊎◌, length, drop, IfOk, IfErr};
+ghost use Rattle.std.specs.Prelude.{◌≡◌, ℕ, ◌+◌, ◌≤◌, ◌<◌, ◌^◌, ◌⊎◌, length, drop, IfOk, IfErr};
 ghost use Rattle.rw_syntax.specs.Machine.{nest};
 ghost use Rattle.rw_syntax.specs.declared.frame.Part.TheVariants as parts;
 ghost use Rattle.rw_reader.specs.Expressions.{TextSpells, IsFaultOf};
@@ -19,6 +19,9 @@ use rw_syntax::step::{advance, finish};
 use rw_terms::term::{Formula, Term};
 use std::alloc::Global;
 
+/// The bound on the nest.
+const MOST: u64 = 512;
+
 /// The level of formulas in the grammar.
 const FORMULA: u8 = 1;
 
@@ -36,8 +39,8 @@ fn turn(
     requires place { IsPlace text.now at }
     requires opened { nest state ≤ 512 }
     ensures within { IfOk result (λ p. (nest p.0 ≤ 512) × (p.1 ≤ length text.now)) }
-    ensures turns { IfOk result (λ p. Turns goal (drop at text.now) state (drop p.1 text.now) p.0) }
-    ensures err { IfErr result (λ e. (e ≡ read_error.Memory) ⊎ ((e ≡ read_error.Syntax at) × Refuses goal (drop at text.now) state)) }
+    ensures turns { IfOk result (λ p. Turns 512 goal (drop at text.now) state (drop p.1 text.now) p.0) }
+    ensures err { IfErr result (λ e. (e ≡ read_error.Memory) ⊎ ((e ≡ read_error.Syntax at) × Refuses 512 goal (drop at text.now) state)) }
 {
     let Some((token, next)) = token_at(text, at) else {
         return Err(fault(at));
@@ -45,7 +48,7 @@ fn turn(
     let Some(class) = class_of(token) else {
         return Err(fault(at));
     };
-    match advance(alloc, goal, state, class)? {
+    match advance(alloc, MOST, goal, state, class)? {
         Some(state) => Ok((state, next)),
         None => Err(fault(at)),
     }
@@ -53,7 +56,7 @@ fn turn(
 
 // Reads a text as a value of a level.
 fn read(alloc: Global, goal: u8, text: &[u8]) -> Result<Part, ReadError>
-    requires short { length text.now ≤ 65536 }
+    requires short { length text.now < 2 ^ 32 }
     requires level { goal ≤ 9 }
     ensures ok { IfOk result (λ v. TextSpells goal text.now v) }
     ensures err { IfErr result (λ e. (e ≡ read_error.Memory) ⊎ ((o : ℕ) × (e ≡ read_error.Syntax o) × IsFaultOf goal text.now o)) }
@@ -72,8 +75,9 @@ fn read(alloc: Global, goal: u8, text: &[u8]) -> Result<Part, ReadError>
 }
 
 /// Reads a text as a term. Its tokens spell that term; else the fault is told, where its tokens cannot go on.
+/// A text has fewer than 2^32 bytes, since an offset is a `u32`.
 pub fn read_term(alloc: Global, text: &[u8]) -> Result<Term, ReadError>
-    requires { length text.now ≤ 65536 }
+    requires { length text.now < 2 ^ 32 }
     ensures ok { IfOk result (λ t. TextSpells 6 text.now (parts.Term t)) }
     ensures err { IfErr result (λ e. (e ≡ read_error.Memory) ⊎ ((o : ℕ) × (e ≡ read_error.Syntax o) × IsFaultOf 6 text.now o)) }
 {
@@ -84,8 +88,9 @@ pub fn read_term(alloc: Global, text: &[u8]) -> Result<Term, ReadError>
 }
 
 /// Reads a text as a formula. Its tokens spell that formula; else the fault is told, where its tokens cannot go on.
+/// A text has fewer than 2^32 bytes, since an offset is a `u32`.
 pub fn read_formula(alloc: Global, text: &[u8]) -> Result<Formula, ReadError>
-    requires { length text.now ≤ 65536 }
+    requires { length text.now < 2 ^ 32 }
     ensures ok { IfOk result (λ f. TextSpells 1 text.now (parts.Formula f)) }
     ensures err { IfErr result (λ e. (e ≡ read_error.Memory) ⊎ ((o : ℕ) × (e ≡ read_error.Syntax o) × IsFaultOf 1 text.now o)) }
 {

@@ -8,6 +8,7 @@ mod reading;
 pub mod request;
 mod taking;
 pub mod token;
+mod value;
 
 pub use expression::{read_formula, read_term};
 pub use reading::read_request;

@@ -1,25 +1,26 @@
 //! Reads a request.
 
-ghost use Rattle.std.specs.Prelude.{◌≡◌, ℕ, ◌≤◌, ◌⊎◌, length, IfOk, IfErr};
-ghost use Rattle.rw_reader.specs.Forms.{main_tree, var_form, root_form, step_form, prove_form};
+ghost use Rattle.std.specs.Prelude.{◌≡◌, ℕ, ◌≤◌, ◌<◌, ◌^◌, ◌⊎◌, length, IfOk, IfErr};
+ghost use Rattle.rw_reader.specs.Forms.{main_tree, var_form, root_form, step_form, prove_form, rule, cert};
 ghost use Rattle.rw_reader.specs.Reading.{reading, reads, fault};
-ghost use Rattle.rw_reader.specs.Progress.{IsPlace, Answers};
+ghost use Rattle.rw_reader.specs.Progress.{IsPlace, Took, Answers};
 ghost use Rattle.rw_reader.specs.declared.request.ReadError.TheVariants as read_error;
 
 use crate::request::{ReadError, Request};
-use crate::taking::{accept, atom, end, expect, number, variable};
+use crate::taking::{accept, end, expect, number, sort, variable};
 use crate::token::skip;
+use crate::value::spec;
 use rw_items::Items;
 use rw_laws::step::BasicStep;
-use rw_programs::prog::{Param, Spec};
+use rw_programs::prog::Param;
 use rw_sequents::line::{Cert, CertLine};
-use rw_terms::term::Sort;
 use rw_tree::edit::{Edit, Path, Place, Step, TreeName};
 use std::alloc::Global;
 
 /// Reads a line as a request. Its tokens spell that request; else the fault is told, where its tokens cannot go on.
+/// A line has fewer than 2^32 bytes, since an offset is a `u32`.
 pub fn read_request(alloc: Global, line: &[u8]) -> Result<Request, ReadError>
-    requires { length line.now ≤ 65536 }
+    requires { length line.now < 2 ^ 32 }
     ensures ok { IfOk result (λ r. reading line.now ≡ reads r) }
     ensures err { IfErr result (λ e. (e ≡ read_error.Memory) ⊎ ((o : ℕ) × (e ≡ read_error.Syntax o) × (reading line.now ≡ fault o))) }
 {
@@ -41,37 +42,26 @@ pub fn read_request(alloc: Global, line: &[u8]) -> Result<Request, ReadError>
     Ok(Request::Status)
 }
 
-// `NAME : int`
+// `NAME : SORT`
 fn read_var(line: &[u8], mut at: usize) -> Result<Request, ReadError>
     requires { IsPlace line.now at }
     ensures { Answers var_form line.now at result }
 {
     let name = variable(line, &mut at)?;
     expect(line, &mut at, b":")?;
-    expect(line, &mut at, b"int")?;
+    let sort = sort(line, &mut at)?;
     end(line, at)?;
-    let sort = Sort::Int;
     Ok(Request::Edit(Edit::Var(Param { name, sort })))
 }
 
-// `NAME : [ATOM, ATOM]`
+// `SPEC`
 fn read_root(alloc: Global, line: &[u8], mut at: usize) -> Result<Request, ReadError>
     requires { IsPlace line.now at }
     ensures { Answers root_form line.now at result }
 {
-    let name = variable(line, &mut at)?;
-    expect(line, &mut at, b":")?;
-    expect(line, &mut at, b"[")?;
-    let pre = atom(alloc, line, &mut at)?;
-    expect(line, &mut at, b",")?;
-    let post = atom(alloc, line, &mut at)?;
-    expect(line, &mut at, b"]")?;
+    let spec = spec(alloc, line, &mut at)?;
     end(line, at)?;
-    let mut frame = Items::new(alloc);
-    frame.push(name)?;
-    let pre = pre.into_inner();
-    let post = post.into_inner();
-    Ok(Request::Edit(Edit::Root(Spec { frame, pre, post })))
+    Ok(Request::Edit(Edit::Root(spec.into_inner())))
 }
 
 // `main skip`
@@ -86,19 +76,42 @@ fn read_step(alloc: Global, line: &[u8], mut at: usize) -> Result<Request, ReadE
     Ok(Request::Edit(Edit::Step(main_tree(alloc), step)))
 }
 
-// `main NUMBER ax`
+// `main NUMBER CERT`
 fn read_prove(alloc: Global, line: &[u8], mut at: usize) -> Result<Request, ReadError>
     requires { IsPlace line.now at }
     ensures { Answers prove_form line.now at result }
 {
     expect(line, &mut at, b"main")?;
-    let number = number(line, &mut at)?;
-    expect(line, &mut at, b"ax")?;
+    let number = number(line, &mut at, 0, 4294967295)?;
+    let lines = cert(alloc, line, &mut at)?;
     end(line, at)?;
-    let mut lines = Items::new(alloc);
-    lines.push(CertLine::Ax)?;
     let cert = Cert { lines };
     Ok(Request::Edit(Edit::Prove(main_tree(alloc), number, cert)))
+}
+
+// A rule and its arguments.
+fn rule(line: &[u8], at: &mut usize) -> Result<CertLine, ReadError>
+    requires { IsPlace line.now at.old }
+    ensures took { Took rule line.now at.old at.new result }
+    ensures on { at.old ≤ at.new }
+{
+    expect(line, at, b"ax")?;
+    Ok(CertLine::Ax)
+}
+
+// Lines with semicolons between them.
+fn cert(alloc: Global, line: &[u8], at: &mut usize) -> Result<Items<CertLine>, ReadError>
+    requires { IsPlace line.now at.old }
+    ensures { Took cert line.now at.old at.new result }
+{
+    let mut lines = Items::new(alloc);
+    let first = rule(line, at)?;
+    lines.push(first)?;
+    'lines: while accept(line, at, b";") {
+        let next = rule(line, at)?;
+        lines.push(next)?;
+    }
+    Ok(lines)
 }
 
 fn main_tree(alloc: Global) -> Place
@@ -152,7 +165,6 @@ mod tests {
                 (b"\tstatus\r", None),
                 (b"frob", Some(0)),
                 (b"  frob", Some(2)),
-                (b"var x : array 4", Some(8)),
                 (b"root x:[true]", Some(12)),
                 (b"prove main 4294967296 ax", Some(11)),
                 (b"prove main 1", Some(12)),
@@ -160,6 +172,82 @@ mod tests {
                 (b"status x", Some(7)),
             ],
         )
+    }
+
+    #[test]
+    fn sorts_have_lengths_from_1_to_1024(rt: HostRuntime) -> Result<(), Fail> {
+        agree(
+            &rt,
+            rt.alloc(),
+            &[
+                (b"var x : array 4", None),
+                (b"var x : array 1024", None),
+                (b"var x : array 0", Some(14)),
+                (b"var x : array 1025", Some(14)),
+                (b"var x : array", Some(13)),
+                (b"var x : array n", Some(14)),
+                (b"var x : bool", Some(8)),
+            ],
+        )
+    }
+
+    #[test]
+    fn specifications_are_read_or_have_their_fault(rt: HostRuntime) -> Result<(), Fail> {
+        agree(
+            &rt,
+            rt.alloc(),
+            &[
+                (b"root x,y:[not (x = 1 or y > 2), x = y0 and y = x0]", None),
+                (
+                    b"root a:[forall i:int . 0 <= a[i], exists _1:array 3 . put(a, 1, 2) = _1]",
+                    None,
+                ),
+                (b"root :[true, P(x, 1) => false]", None),
+                (b"root [true, true]", Some(5)),
+                (b"root x,:[true, true]", Some(7)),
+                (b"root x y:[true, true]", Some(7)),
+                (b"root X:[true, true]", Some(5)),
+                (b"root x:[x = 1 = 2, true]", Some(14)),
+                (b"root x:[put(a, 1), true]", Some(16)),
+                (b"root x:[(true, true]", Some(13)),
+                (b"root x:[true), true]", Some(12)),
+                (b"root x:[forall x:int . _2 = 0, true]", Some(23)),
+                (b"root x:[x, true]", Some(9)),
+                (b"root x:[true, true", Some(18)),
+                (b"root x:[true, true] x", Some(20)),
+            ],
+        )
+    }
+
+    #[test]
+    fn certificates_are_lines_with_semicolons(rt: HostRuntime) -> Result<(), Fail> {
+        agree(
+            &rt,
+            rt.alloc(),
+            &[
+                (b"prove main 1 ax ; ax", None),
+                (b"prove main 1 ax ;", Some(17)),
+                (b"prove main 1 ax , ax", Some(16)),
+                (b"prove main 1 ax ax", Some(16)),
+            ],
+        )
+    }
+
+    // A bracket of the request and so many in its first formula.
+    fn bracketed(alloc: Global, times: usize) -> Result<Vec<u8>, Fail> {
+        let mut line = Vec::new(alloc);
+        line.extend_from_slice(b"root x:[")?;
+        for _ in 0..times {
+            line.extend_from_slice(b"(")?;
+        }
+        Ok(line)
+    }
+
+    #[test]
+    fn brackets_of_a_request_count_in_the_nest(rt: HostRuntime) -> Result<(), Fail> {
+        let most = bracketed(rt.alloc(), 511)?;
+        let past = bracketed(rt.alloc(), 512)?;
+        agree(&rt, rt.alloc(), &[(&most, Some(519)), (&past, Some(519))])
     }
 
     #[test]

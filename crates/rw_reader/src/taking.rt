@@ -1,21 +1,21 @@
 //! The parts of requests, read from a place on.
 
-ghost use Rattle.std.specs.Prelude.{◌≡◌, ℕ, ◌≤◌, length};
-ghost use Rattle.rw_reader.specs.Forms.{is_text, is_lower, variable_of, number_within, named_operand, operand_of, takes, exactly, a_variable, a_number, an_operand, atom};
+ghost use Rattle.std.specs.Prelude.{◌≡◌, ℕ, ◌≤◌, ◌<◌, ◌^◌, length, IfOk, IfSome, IsTrue};
+ghost use Rattle.rw_reader.specs.Forms.{is_text, is_lower, variable_of, number_within, takes, exactly, a_variable, a_number, sort, names};
 ghost use Rattle.rw_reader.specs.Seen.{seen};
 ghost use Rattle.rw_reader.specs.Progress.{IsPlace, Took, Chose, Ended};
 ghost use Rattle.rw_reader.specs.declared.request.ReadError.TheVariants as read_error;
 
 use crate::request::ReadError;
-use crate::token::{LARGEST, Token, token_at};
-use rw_items::Boxed;
+use crate::token::{Token, token_at};
+use rw_items::Items;
 use rw_terms::name::Name;
-use rw_terms::term::{Formula, Term};
+use rw_terms::term::Sort;
 use std::alloc::Global;
 
 /// The fault at a place.
 pub fn fault(at: usize) -> ReadError
-    requires { at ≤ 65536 }
+    requires { at < 2 ^ 32 }
     ensures { result ≡ read_error.Syntax at }
 {
     ReadError::Syntax(at as u32)
@@ -24,7 +24,8 @@ pub fn fault(at: usize) -> ReadError
 /// Reads this word or symbol.
 pub fn expect(line: &[u8], at: &mut usize, text: &[u8]) -> Result<(), ReadError>
     requires { IsPlace line.now at.old }
-    ensures { Took (takes (exactly text.now)) line.now at.old at.new result }
+    ensures took { Took (takes (exactly text.now)) line.now at.old at.new result }
+    ensures on { at.old ≤ at.new }
 {
     match token_at(line, *at) {
         Some((token, next)) => {
@@ -41,7 +42,8 @@ pub fn expect(line: &[u8], at: &mut usize, text: &[u8]) -> Result<(), ReadError>
 /// Reads this word or symbol, if it stands there.
 pub fn accept(line: &[u8], at: &mut usize, text: &[u8]) -> bool
     requires { IsPlace line.now at.old }
-    ensures { Chose text.now line.now at.old at.new result }
+    ensures chose { Chose text.now line.now at.old at.new result }
+    ensures on { IsTrue result → at.old < at.new }
 {
     match token_at(line, *at) {
         Some((token, next)) => {
@@ -58,7 +60,8 @@ pub fn accept(line: &[u8], at: &mut usize, text: &[u8]) -> bool
 /// Reads a variable's name.
 pub fn variable(line: &[u8], at: &mut usize) -> Result<Name, ReadError>
     requires { IsPlace line.now at.old }
-    ensures { Took (takes a_variable) line.now at.old at.new result }
+    ensures took { Took (takes a_variable) line.now at.old at.new result }
+    ensures on { at.old ≤ at.new }
 {
     match token_at(line, *at) {
         Some((token, next)) => match variable_of(token) {
@@ -72,13 +75,14 @@ pub fn variable(line: &[u8], at: &mut usize) -> Result<Name, ReadError>
     }
 }
 
-/// Reads the number of an obligation.
-pub fn number(line: &[u8], at: &mut usize) -> Result<u32, ReadError>
+/// Reads a number from the one to the other.
+pub fn number(line: &[u8], at: &mut usize, least: u32, most: u32) -> Result<u32, ReadError>
     requires { IsPlace line.now at.old }
-    ensures { Took (takes (a_number 4294967295)) line.now at.old at.new result }
+    ensures within { IfOk result (λ n. n ≤ most) }
+    ensures took { Took (takes (a_number least most)) line.now at.old at.new result }
 {
     match token_at(line, *at) {
-        Some((token, next)) => match number_within(token) {
+        Some((token, next)) => match number_within(least, most, token) {
             Some(n) => {
                 *at = next;
                 Ok(n)
@@ -89,39 +93,32 @@ pub fn number(line: &[u8], at: &mut usize) -> Result<u32, ReadError>
     }
 }
 
-// What is held while more is read is boxed: letting go of a box is one call.
-fn operand(alloc: Global, line: &[u8], at: &mut usize) -> Result<Boxed<Term>, ReadError>
+/// Reads a sort: `int`, or `array` and a length.
+pub fn sort(line: &[u8], at: &mut usize) -> Result<Sort, ReadError>
     requires { IsPlace line.now at.old }
-    ensures { Took (takes an_operand) line.now at.old at.new result }
+    ensures { Took sort line.now at.old at.new result }
 {
-    match token_at(line, *at) {
-        Some((token, next)) => match operand_of(token) {
-            Some(term) => {
-                *at = next;
-                Ok(Boxed::new(alloc, term)?)
-            }
-            None => Err(fault(*at)),
-        },
-        None => Err(fault(*at)),
+    if accept(line, at, b"int") {
+        return Ok(Sort::Int);
     }
+    expect(line, at, b"array")?;
+    let length = number(line, at, 1, 1024)?;
+    Ok(Sort::Array(length as u16))
 }
 
-/// Reads an atom: `true`, `false`, or two operands with `=` between them.
-pub fn atom(alloc: Global, line: &[u8], at: &mut usize) -> Result<Boxed<Formula>, ReadError>
+/// Reads names with commas between them.
+pub fn names(alloc: Global, line: &[u8], at: &mut usize) -> Result<Items<Name>, ReadError>
     requires { IsPlace line.now at.old }
-    ensures { Took atom line.now at.old at.new result }
+    ensures { Took names line.now at.old at.new result }
 {
-    if accept(line, at, b"true") {
-        return Ok(Boxed::new(alloc, Formula::True)?);
+    let mut names = Items::new(alloc);
+    let first = variable(line, at)?;
+    names.push(first)?;
+    'names: while accept(line, at, b",") {
+        let name = variable(line, at)?;
+        names.push(name)?;
     }
-    if accept(line, at, b"false") {
-        return Ok(Boxed::new(alloc, Formula::False)?);
-    }
-    let left = operand(alloc, line, at)?;
-    expect(line, at, b"=")?;
-    let right = operand(alloc, line, at)?;
-    let equation = Formula::Eq(left.into_inner(), right.into_inner());
-    Ok(Boxed::new(alloc, equation)?)
+    Ok(names)
 }
 
 /// Sees that nothing is left.
@@ -165,48 +162,18 @@ fn is_lower(text: &[u8]) -> bool
     }
 }
 
-fn number_within(token: Token) -> Option<u32>
-    ensures { result ≡ number_within 4294967295 (seen token.entry) }
+fn number_within(least: u32, most: u32, token: Token) -> Option<u32>
+    ensures number { result ≡ number_within least most (seen token.entry) }
+    ensures within { IfSome result (λ n. n ≤ most) }
 {
     match token {
         Token::Number(n) => {
-            if n <= 4294967295 {
+            if u128::from(least) <= n && n <= u128::from(most) {
                 Some(n as u32)
             } else {
                 None
             }
         }
         Token::Text(_) | Token::Binder(_) => None,
-    }
-}
-
-fn operand_of(token: Token) -> Option<Term>
-    ensures { result ≡ operand_of (seen token.entry) }
-{
-    match token {
-        Token::Number(n) => {
-            if n > LARGEST {
-                return None;
-            }
-            Some(Term::Lit(n as i128))
-        }
-        Token::Text(text) => named_operand(text),
-        Token::Binder(_) => None,
-    }
-}
-
-// A variable begins with a lower-case letter, a constant with an upper-case one.
-fn named_operand(text: &[u8]) -> Option<Term>
-    ensures { result ≡ named_operand text.now }
-{
-    match Name::read(text) {
-        Ok(name) => {
-            if is_lower(text) {
-                Some(Term::Var(name))
-            } else {
-                Some(Term::Const(name))
-            }
-        }
-        Err(_) => None,
     }
 }

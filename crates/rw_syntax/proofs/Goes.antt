@@ -25,10 +25,25 @@ use Rattle.rw_syntax.proofs.Operators.{hole_most}
 use Rattle.rw_syntax.proofs.Sound.{prefix_stands}
 use Rattle.rw_syntax.proofs.After.{group_room, word_has, fit_term}
 
--- a whole tree whose text begins with tokens
+-- whether a token holds no word
+abbrev pub is_plain : Token → Bool
+is_plain (tokens.Word w) = false
+is_plain (tokens.Initial w) = false
+is_plain _ = true
+
+abbrev pub ArePlain : List Token → Type 0
+ArePlain [] = Unit {0}
+ArePlain (t ∷ ts) = IsTrue (is_plain t) × ArePlain ts
+
+plain_both : (a b : List Token) → ArePlain a → ArePlain b → ArePlain (a ++ b)
+plain_both [] b p q = q
+plain_both (t ∷ a) b p q = (p.0, plain_both a b p.1 q)
+
+-- a whole tree whose text begins with tokens, and goes on without words
 pub record Grows (goal : ℕ) (ts : List Token) : Type 0 where
   pub tree : Tree
   pub rest : List Token
+  pub plain : ArePlain rest
   pub formed : IsFormed [] tree
   pub fit : IsTrue (fits goal (level tree))
   pub written : text tree ≡ ts ++ rest
@@ -37,6 +52,7 @@ pub record Grows (goal : ℕ) (ts : List Token) : Type 0 where
 record Fitted (env : List Binder) (wanted : ℕ) (t : Tree) : Type 0 where
   tree : Tree
   rest : List Token
+  plain : ArePlain rest
   formed : IsFormed env tree
   fit : IsTrue (fits wanted (level tree))
   written : text tree ≡ text t ++ rest
@@ -48,13 +64,13 @@ fitted env wanted t f h = go (leb 6 (level t)) refl (leb 6 wanted) refl
     go true a false b =
         let q = le_of 6 (level t) a in
         let r = lt_of 6 wanted b in
-        record { tree = binary infixes.Equal t (leaf (number 0)); rest = tokens.Infix infixes.Equal ∷ tokens.Number 0 ∷ []; formed = (fits_to 6 (level t) q (λ x. absurd (omega arith)), refl, f, refl); fit = fits_to wanted 5 (omega arith) (λ x. omega arith); written = refl }
+        record { tree = binary infixes.Equal t (leaf (number 0)); rest = tokens.Infix infixes.Equal ∷ tokens.Number 0 ∷ []; plain = (refl, (refl, tt)); formed = (fits_to 6 (level t) q (λ x. absurd (omega arith)), refl, f, refl); fit = fits_to wanted 5 (omega arith) (λ x. omega arith); written = refl }
     go true a true b =
         let q = le_of 6 wanted b in
-        record { tree = t; rest = []; formed = f; fit = fits_to wanted (level t) h (λ x. absurd (omega arith)); written = sym (append-nil (text t)) }
+        record { tree = t; rest = []; plain = tt; formed = f; fit = fits_to wanted (level t) h (λ x. absurd (omega arith)); written = sym (append-nil (text t)) }
     go false a b e =
         let q = lt_of 6 (level t) a in
-        record { tree = t; rest = []; formed = f; fit = fits_to wanted (level t) h (λ x. q); written = sym (append-nil (text t)) }
+        record { tree = t; rest = []; plain = tt; formed = f; fit = fits_to wanted (level t) h (λ x. q); written = sym (append-nil (text t)) }
 
 -- before ++ (own ++ (x ++ m)) ++ n
 regrouped : {A : Type 0} (whole b before own x m n : List A) → b ≡ before ++ own → whole ≡ (before ++ (own ++ (x ++ m))) ++ n → whole ≡ (b ++ x) ++ (m ++ n)
@@ -63,6 +79,7 @@ regrouped whole b before own x m n e f = f ∙ sym (ap (λ y. (y ++ x) ++ (m ++ 
 -- the rest of a list of terms of which one is begun
 record Lists (env : List Binder) (h : Head) (ready_ones : Trees) (t : Tree) : Type 0 where
   rest : List Token
+  plain : ArePlain rest
   all_done : Trees
   last : Tree
   enough : IsTrue (takes h (count all_done))
@@ -74,6 +91,7 @@ record Lists (env : List Binder) (h : Head) (ready_ones : Trees) (t : Tree) : Ty
 zero_more : (env : List Binder) (h : Head) (ready_ones : Trees) (t : Tree) → Lists env h (more ready_ones t) (leaf (number 0)) → Lists env h ready_ones t
 zero_more env h ready_ones t l = record {
   rest = tokens.Comma ∷ tokens.Number 0 ∷ l.rest;
+  plain = (refl, (refl, l.plain));
   all_done = l.all_done;
   last = l.last;
   enough = l.enough;
@@ -84,7 +102,7 @@ zero_more env h ready_ones t l = record {
 }
 
 ready : (env : List Binder) (h : Head) (ready_ones : Trees) (t : Tree) → IsTrue (takes h (count ready_ones)) → AreFormed env ready_ones → IsTrue (fits 6 (level t)) → IsFormed env t → Lists env h ready_ones t
-ready env h ready_ones t e f k g = record { rest = []; all_done = ready_ones; last = t; enough = e; formed = f; fit = k; last_formed = g; written = sym (append-nil (texts ready_ones ++ text t)) }
+ready env h ready_ones t e f k g = record { rest = []; plain = tt; all_done = ready_ones; last = t; enough = e; formed = f; fit = k; last_formed = g; written = sym (append-nil (texts ready_ones ++ text t)) }
 
 lists_put : (env : List Binder) (n : ℕ) (ready_ones : Trees) (t : Tree) → count ready_ones ≡ n → leb n 2 ≡ true → AreFormed env ready_ones → IsTrue (fits 6 (level t)) → IsFormed env t → Lists env heads.Put ready_ones t
 lists_put env zero ready_ones t e b f k g = zero_more env heads.Put ready_ones t (zero_more env heads.Put (more ready_ones t) (leaf (number 0)) (ready env heads.Put (more (more ready_ones t) (leaf (number 0))) (leaf (number 0)) (ap (λ n. eqb (suc (suc n)) 2) e) ((f, k, g), refl, refl) refl refl))
@@ -99,13 +117,14 @@ lists env (heads.Named w) ready_ones t e f k g = ready env (heads.Named w) ready
 pub grows : (goal : ℕ) (fs : List Frame) (before : List Token) (t : Tree) → goal ≤ 9 → Stands goal fs before → IsFormed (scope fs) t → hole goal fs ≤ level t → Grows goal (before ++ text t)
 grows goal [] before t g s f h =
     let q = fitted [] goal t f h in
-    record { tree = q.tree; rest = q.rest; formed = q.formed; fit = q.fit; written = q.written ∙ ap (λ b. b ++ text t ++ q.rest) (sym s) }
+    record { tree = q.tree; rest = q.rest; plain = q.plain; formed = q.formed; fit = q.fit; written = q.written ∙ ap (λ b. b ++ text t ++ q.rest) (sym s) }
 grows goal (frames.Prefix p ∷ fs) before t g s f h =
     let q = fitted (inner p (scope fs)) (prefix_level p) t f h in
     let r = grows goal fs s.0 (prefix p q.tree) g s.3 (s.4.2, q.fit, q.formed) s.4.1 in
     record {
       tree = r.tree;
       rest = q.rest ++ r.rest;
+      plain = plain_both q.rest r.rest q.plain r.plain;
       formed = r.formed;
       fit = r.fit;
       written = regrouped (text r.tree) before s.0 (prefix_text p) (text t) q.rest r.rest (s.2 ∙ ap (λ o. s.0 ++ o) s.4.0) (r.written ∙ ap (λ x. (s.0 ++ (prefix_text p ++ x)) ++ r.rest) q.written);
@@ -117,6 +136,7 @@ grows goal (frames.Infix op u c ∷ fs) before t g s f h =
     record {
       tree = r.tree;
       rest = q.rest ++ r.rest;
+      plain = plain_both q.rest r.rest q.plain r.plain;
       formed = r.formed;
       fit = r.fit;
       written = regrouped (text r.tree) before s.0 (text l.tree ++ tokens.Infix op ∷ []) (text t) q.rest r.rest (s.2 ∙ ap (λ o. s.0 ++ o) l.written)
@@ -127,6 +147,7 @@ grows goal (frames.Group only ∷ fs) before t g s f h =
     record {
       tree = r.tree;
       rest = (tokens.Close ∷ []) ++ r.rest;
+      plain = (refl, r.plain);
       formed = r.formed;
       fit = r.fit;
       written = regrouped (text r.tree) before s.0 (tokens.Open ∷ []) (text t) (tokens.Close ∷ []) r.rest (s.2 ∙ ap (λ o. s.0 ++ o) s.4.0) r.written;
@@ -138,6 +159,7 @@ grows goal (frames.Index u c ∷ fs) before t g s f h =
     record {
       tree = r.tree;
       rest = close ++ r.rest;
+      plain = (refl, r.plain);
       formed = r.formed;
       fit = r.fit;
       written = regrouped (text r.tree) before s.0 (text l.tree ++ tokens.OpenSquare ∷ []) (text t) close r.rest (s.2 ∙ ap (λ o. s.0 ++ o) l.written)
@@ -154,6 +176,7 @@ grows goal (frames.Call hd us ∷ fs) before t g s f h =
     record {
       tree = r.tree;
       rest = (q.rest ++ close) ++ r.rest;
+      plain = plain_both (q.rest ++ close) r.rest (plain_both q.rest close q.plain (refl, tt)) r.plain;
       formed = r.formed;
       fit = r.fit;
       written = regrouped (text r.tree) before s.0 own (text t) (q.rest ++ close) r.rest (s.2 ∙ ap (λ o. s.0 ++ o) k.written) (r.written ∙ ap (λ x. (s.0 ++ x) ++ r.rest) inside);
@@ -162,32 +185,33 @@ grows goal (frames.Call hd us ∷ fs) before t g s f h =
 pub wanting : (goal : ℕ) (fs : List Frame) (ts : List Token) → goal ≤ 9 → Stands goal fs ts → Grows goal ts
 wanting goal fs ts g s =
     let r = grows goal fs ts (leaf (number 0)) g s refl (hole_most goal fs g) in
-    record { tree = r.tree; rest = tokens.Number 0 ∷ r.rest; formed = r.formed; fit = r.fit; written = r.written ∙ append_assoc ts (tokens.Number 0 ∷ []) r.rest }
+    record { tree = r.tree; rest = tokens.Number 0 ∷ r.rest; plain = (refl, r.plain); formed = r.formed; fit = r.fit; written = r.written ∙ append_assoc ts (tokens.Number 0 ∷ []) r.rest }
 
 having : (goal : ℕ) (v : Part) (n c : ℕ) (fs : List Frame) (ts : List Token) → goal ≤ 9 → Has goal v n c fs ts → Grows goal ts
 having goal v n c fs ts g s =
     let r = grows goal fs s.before s.tree g s.stands s.formed (subst (λ x. hole goal fs ≤ x) (sym s.height) s.room) in
-    record { tree = r.tree; rest = r.rest; formed = r.formed; fit = r.fit; written = r.written ∙ ap (λ x. x ++ r.rest) (sym s.written) }
+    record { tree = r.tree; rest = r.rest; plain = r.plain; formed = r.formed; fit = r.fit; written = r.written ∙ ap (λ x. x ++ r.rest) (sym s.written) }
 
 -- how a quantifier that is begun may end
-quantified : (goal : ℕ) (fs : List Frame) (before own rest : List Token) (q : Quantifier) (b : Binder) (o : Sort) → goal ≤ 9 → Stands goal fs before → IsTrue (is_prefix (prefixes.Bind q b o)) → hole goal fs ≤ 1 → (ts : List Token) → ts ≡ before ++ own → prefix_text (prefixes.Bind q b o) ≡ own ++ rest → Grows goal ts
-quantified goal fs before own rest q b o g s v r ts e w =
+quantified : (goal : ℕ) (fs : List Frame) (before own rest : List Token) (q : Quantifier) (b : Binder) (o : Sort) → ArePlain rest → goal ≤ 9 → Stands goal fs before → IsTrue (is_prefix (prefixes.Bind q b o)) → hole goal fs ≤ 1 → (ts : List Token) → ts ≡ before ++ own → prefix_text (prefixes.Bind q b o) ≡ own ++ rest → Grows goal ts
+quantified goal fs before own rest q b o z g s v r ts e w =
     let p = prefixes.Bind q b o in
     let k = wanting goal (frames.Prefix p ∷ fs) (before ++ prefix_text p) g (prefix_stands goal p fs before s v r) in
     record {
       tree = k.tree;
       rest = rest ++ k.rest;
+      plain = plain_both rest k.rest z k.plain;
       formed = k.formed;
       fit = k.fit;
       written = k.written ∙ ap (λ x. (before ++ x) ++ k.rest) w ∙ ap (λ x. x ++ k.rest) (sym (append_assoc before own rest)) ∙ append_assoc (before ++ own) rest k.rest ∙ ap (λ x. x ++ (rest ++ k.rest)) (sym e);
     }
 
 beginning : (goal : ℕ) (p : Partial) (fs : List Frame) (ts : List Token) → goal ≤ 9 → Begins goal p fs ts → Grows goal ts
-beginning goal (partials.Naming q) fs ts g h = quantified goal fs h.before (partial_text (partials.Naming q)) (tokens.Place 1 ∷ tokens.Colon ∷ tokens.Int ∷ tokens.Dot ∷ []) q (binders.Numbered 1) sorts.Int g h.stands refl h.room ts h.written refl
-beginning goal (partials.Named q b) fs ts g h = quantified goal fs h.before (partial_text (partials.Named q b)) (tokens.Colon ∷ tokens.Int ∷ tokens.Dot ∷ []) q b sorts.Int g h.stands (ap (λ x. cond x true false) h.valid) h.room ts h.written refl
-beginning goal (partials.Sorting q b) fs ts g h = quantified goal fs h.before (partial_text (partials.Sorting q b)) (tokens.Int ∷ tokens.Dot ∷ []) q b sorts.Int g h.stands (ap (λ x. cond x true false) h.valid) h.room ts h.written refl
-beginning goal (partials.Measuring q b) fs ts g h = quantified goal fs h.before (partial_text (partials.Measuring q b)) (tokens.Number 1 ∷ tokens.Dot ∷ []) q b (sorts.Array 1) g h.stands (ap (λ x. cond x true false) h.valid) h.room ts h.written refl
-beginning goal (partials.Sorted q b o) fs ts g h = quantified goal fs h.before (partial_text (partials.Sorted q b o)) (tokens.Dot ∷ []) q b o g h.stands h.valid h.room ts h.written refl
+beginning goal (partials.Naming q) fs ts g h = quantified goal fs h.before (partial_text (partials.Naming q)) (tokens.Place 1 ∷ tokens.Colon ∷ tokens.Int ∷ tokens.Dot ∷ []) q (binders.Numbered 1) sorts.Int (refl, (refl, (refl, (refl, tt)))) g h.stands refl h.room ts h.written refl
+beginning goal (partials.Named q b) fs ts g h = quantified goal fs h.before (partial_text (partials.Named q b)) (tokens.Colon ∷ tokens.Int ∷ tokens.Dot ∷ []) q b sorts.Int (refl, (refl, (refl, tt))) g h.stands (ap (λ x. cond x true false) h.valid) h.room ts h.written refl
+beginning goal (partials.Sorting q b) fs ts g h = quantified goal fs h.before (partial_text (partials.Sorting q b)) (tokens.Int ∷ tokens.Dot ∷ []) q b sorts.Int (refl, (refl, tt)) g h.stands (ap (λ x. cond x true false) h.valid) h.room ts h.written refl
+beginning goal (partials.Measuring q b) fs ts g h = quantified goal fs h.before (partial_text (partials.Measuring q b)) (tokens.Number 1 ∷ tokens.Dot ∷ []) q b (sorts.Array 1) (refl, (refl, tt)) g h.stands (ap (λ x. cond x true false) h.valid) h.room ts h.written refl
+beginning goal (partials.Sorted q b o) fs ts g h = quantified goal fs h.before (partial_text (partials.Sorted q b o)) (tokens.Dot ∷ []) q b o (refl, tt) g h.stands h.valid h.room ts h.written refl
 beginning goal partials.Putting fs ts g h =
     let own = tokens.Put ∷ tokens.Open ∷ [] in
     let t : HasTerms (scope fs) heads.Put [] own = record { done = none; formed = tt; values_are = refl; room = refl; written = refl } in
@@ -195,6 +219,7 @@ beginning goal partials.Putting fs ts g h =
     record {
       tree = k.tree;
       rest = tokens.Open ∷ k.rest;
+      plain = (refl, k.plain);
       formed = k.formed;
       fit = k.fit;
       written = k.written ∙ ap (λ x. x ++ k.rest) (sym (append_assoc h.before (tokens.Put ∷ []) (tokens.Open ∷ []))) ∙ append_assoc (h.before ++ tokens.Put ∷ []) (tokens.Open ∷ []) k.rest ∙ ap (λ x. x ++ (tokens.Open ∷ k.rest)) (sym h.written);

@@ -12,3 +12,5 @@ pub mod Reading
 pub mod Exact
 pub mod TermsApart
 pub mod Endings
+pub mod Outside
+pub mod Looking

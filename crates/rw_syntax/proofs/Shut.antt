@@ -34,18 +34,18 @@ step_word goal w fs t e = ap (λ b. cond b (begun (hole goal fs) (head_level (he
 
 pub ruleset shut = (step_wants, step_partial, step_has, step_open, step_word)
 
-advance_is : (goal : ℕ) (s : State) (t : Token) → advance_shut goal s t ≡ option_and_then limited (step_shut goal s t)
+advance_is : (most goal : ℕ) (s : State) (t : Token) → advance_shut most goal s t ≡ option_and_then (limited most) (step_shut goal s t)
 unfolding step_shut advance_shut
-advance_is goal s t = refl
+advance_is most goal s t = refl
 
-pub advance_none : (goal : ℕ) (s : State) (t : Token) → step_shut goal s t ≡ None → advance_shut goal s t ≡ None
-advance_none goal s t e = advance_is goal s t ∙ ap (option_and_then limited) e
+pub advance_none : (most goal : ℕ) (s : State) (t : Token) → step_shut goal s t ≡ None → advance_shut most goal s t ≡ None
+advance_none most goal s t e = advance_is most goal s t ∙ ap (option_and_then (limited most)) e
 
-pub advance_some : (goal : ℕ) (s : State) (t : Token) (x : State) → step_shut goal s t ≡ Some x → leb (nest x) 512 ≡ true → advance_shut goal s t ≡ Some x
-advance_some goal s t x e l = advance_is goal s t ∙ ap (option_and_then limited) e ∙ ap (λ b. cond b (Some x) None) l
+pub advance_some : (most goal : ℕ) (s : State) (t : Token) (x : State) → step_shut goal s t ≡ Some x → leb (nest x) most ≡ true → advance_shut most goal s t ≡ Some x
+advance_some most goal s t x e l = advance_is most goal s t ∙ ap (option_and_then (limited most)) e ∙ ap (λ b. cond b (Some x) None) l
 
-pub advance_past : (goal : ℕ) (s : State) (t : Token) (x : State) → step_shut goal s t ≡ Some x → leb (nest x) 512 ≡ false → advance_shut goal s t ≡ None
-advance_past goal s t x e l = advance_is goal s t ∙ ap (option_and_then limited) e ∙ ap (λ b. cond b (Some x) None) l
+pub advance_past : (most goal : ℕ) (s : State) (t : Token) (x : State) → step_shut goal s t ≡ Some x → leb (nest x) most ≡ false → advance_shut most goal s t ≡ None
+advance_past most goal s t x e l = advance_is most goal s t ∙ ap (option_and_then (limited most)) e ∙ ap (λ b. cond b (Some x) None) l
 
 pub ruleset advances = (advance_none, advance_some, advance_past)
 

@@ -86,13 +86,13 @@ kinds env (index t u) = refl
 kinds env (call h ts t) = head_kind h (values env ts) (part env t)
 
 -- what is read as a term is no formula
-pub terms_only : (ts : List Token) (f : Formula) → Spells 6 ts (parts.Formula f) → ⊥
-terms_only ts f s =
+pub terms_only : (most : ℕ) (ts : List Token) (f : Formula) → Spells most 6 ts (parts.Formula f) → ⊥
+terms_only most ts f s =
     let e : leb 6 (level s.tree) ≡ true = le_to 6 (level s.tree) (fits_of 6 (level s.tree) s.fit).0 in
     true≢false (sym e ∙ sym (kinds [] s.tree) ∙ ap is_term s.value)
 
 -- what is read as a formula is no term
-pub formulas_only : (ts : List Token) (t : Term) → Spells 1 ts (parts.Term t) → ⊥
-formulas_only ts t s =
+pub formulas_only : (most : ℕ) (ts : List Token) (t : Term) → Spells most 1 ts (parts.Term t) → ⊥
+formulas_only most ts t s =
     let e : leb 6 (level s.tree) ≡ false = lt_to 6 (level s.tree) ((fits_of 1 (level s.tree) s.fit).1 (omega arith)) in
     true≢false (sym (sym (kinds [] s.tree) ∙ ap is_term s.value) ∙ e)

@@ -4,3 +4,4 @@ pub mod Found
 pub mod Machine
 pub mod Steps
 pub mod Spelling
+pub mod Stops

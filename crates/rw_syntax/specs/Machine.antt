@@ -227,15 +227,15 @@ finish goal (partial p fs) = None
 finish goal (worded w fs) = finish_with goal (word_part w fs) 9 0 fs
 finish goal (has v n c fs) = finish_with goal v n c fs
 
--- with a nest within 512
-abbrev pub limited : State → Option State
-limited s = cond (leb (nest s) 512) (Some s) None
+-- with a nest within `most`
+abbrev pub limited : ℕ → State → Option State
+limited most s = cond (leb (nest s) most) (Some s) None
 
 -- the state behind one more token
-abbrev pub advance : ℕ → State → Token → Option State
-advance goal s t = option_and_then limited (step goal s t)
+abbrev pub advance : ℕ → ℕ → State → Token → Option State
+advance most goal s t = option_and_then (limited most) (step goal s t)
 
--- the state behind more tokens, with a nest within 512 at each
-unfoldable pub run_within : ℕ → State → List Token → Option State
-run_within goal s [] = Some s
-run_within goal s (t ∷ ts) = option_and_then (λ s2. run_within goal s2 ts) (advance goal s t)
+-- the state behind more tokens, with a nest within `most` at each
+unfoldable pub run_within : ℕ → ℕ → State → List Token → Option State
+run_within most goal s [] = Some s
+run_within most goal s (t ∷ ts) = option_and_then (λ s2. run_within most goal s2 ts) (advance most goal s t)

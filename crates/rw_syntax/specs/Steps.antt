@@ -37,9 +37,9 @@ go_on_shut goal v n c fs t = go_on goal v n c fs t
 unfoldable pub step_shut : ℕ → State → Token → Option State
 step_shut goal s t = step goal s t
 
--- a step with a nest within 512
-unfoldable pub advance_shut : ℕ → State → Token → Option State
-advance_shut goal s t = advance goal s t
+-- a step with a nest within `most`
+unfoldable pub advance_shut : ℕ → ℕ → State → Token → Option State
+advance_shut most goal s t = advance most goal s t
 
 -- the end of the tokens
 unfoldable pub finish_shut : ℕ → State → Option Part

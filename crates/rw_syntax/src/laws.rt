@@ -7,5 +7,5 @@ ghost use Rattle.rw_syntax.specs.Spelling.{Spells};
 
 /// No tokens spell two values.
 pub fn one_value()
-    ensures { (goal : ℕ) (ts : List Token) (v w : Part) → goal ≤ 9 → Spells goal ts v → Spells goal ts w → v ≡ w }
+    ensures { (most goal : ℕ) (ts : List Token) (v w : Part) → goal ≤ 9 → Spells most goal ts v → Spells most goal ts w → v ≡ w }
 {}

@@ -12,5 +12,6 @@ pub mod laws;
 pub mod partial;
 pub mod state;
 pub mod step;
+pub mod stops;
 pub mod table;
 pub mod token;

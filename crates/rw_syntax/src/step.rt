@@ -111,36 +111,37 @@ fn step(alloc: Global, goal: u8, state: State, token: Token) -> Result<Option<St
     }
 }
 
-// Whether the nest is within 512.
-fn is_within(state: &State) -> bool
-    ensures { result ≡ leb (nest state.now) 512 }
+// Whether the nest is within `most`.
+fn is_within(most: u64, state: &State) -> bool
+    ensures { result ≡ leb (nest state.now) most }
 {
     match state {
-        State::Wants(stack) | State::Worded(_, stack) => stack.nest() <= 512,
-        State::Partial(Partial::Putting, stack) => stack.nest() <= 512,
-        State::Partial(_, stack) => stack.nest() <= 511,
+        State::Wants(stack) | State::Worded(_, stack) => stack.nest() <= most,
+        State::Partial(Partial::Putting, stack) => stack.nest() <= most,
+        State::Partial(_, stack) => stack.nest() < most,
         State::Has(_, _, chain, stack) => {
             let open = stack.nest();
-            open <= 512 && u64::from(*chain) <= 512 - open
+            open <= most && u64::from(*chain) <= most - open
         }
     }
 }
 
-/// The state behind one more token, with a nest within 512. `None` where the token cannot go on.
+/// The state behind one more token, with a nest within `most`. `None` where the token cannot go on.
 #[tactic(auto, using(crate::proofs::Shut::advances))]
 pub fn advance(
     alloc: Global,
+    most: u64,
     goal: u8,
     state: State,
     token: Token,
 ) -> Result<Option<State>, AllocError>
     requires { nest state ≤ 512 }
-    ensures state { IfOk result (λ o. o ≡ advance_shut goal state token) }
-    ensures within { IfOk result (λ o. IfSome o (λ s. nest s ≤ 512)) }
+    ensures state { IfOk result (λ o. o ≡ advance_shut most goal state token) }
+    ensures within { IfOk result (λ o. IfSome o (λ s. nest s ≤ most)) }
 {
     match step(alloc, goal, state, token)? {
         Some(next) => {
-            if is_within(&next) {
+            if is_within(most, &next) {
                 Ok(Some(next))
             } else {
                 Ok(None)

@@ -1,13 +1,17 @@
 use Rattle.std.proofs.Common.{◌∙◌, sym, drop}
 use Rattle.rw_reader.specs.Seen.{seen}
+use Rattle.rw_reader.proofs.Shorter.{moves_on}
 use Rattle.rw_reader.proofs.Parts.{none_other, other_goes, word_goes, moved}
 use Rattle.rw_reader.proofs.taking.accept.Goals as goal
 
-pub returns-in-None : goal.returns-in-None
-returns-in-None c = (c.requires, none_other c.args.text.now (drop c.args.at.now c.args.line.now) c.in-None.ensures)
+pub returns-in-None-clause-chose : goal.returns-in-None-clause-chose
+returns-in-None-clause-chose c = (c.requires, none_other c.args.text.now (drop c.args.at.now c.args.line.now) c.in-None.ensures)
 
-pub returns-then-not-is_text : goal.returns-then-not-is_text
-returns-then-not-is_text c = (c.requires, other_goes c.args.text.now (drop c.args.at.now c.args.line.now) (seen c.in-Some.token) _ c.in-Some.ensures.1 (sym c.is_text.ensures ∙ c.if-not-is_text.true))
+pub returns-then-not-is_text-clause-chose : goal.returns-then-not-is_text-clause-chose
+returns-then-not-is_text-clause-chose c = (c.requires, other_goes c.args.text.now (drop c.args.at.now c.args.line.now) (seen c.in-Some.token) _ c.in-Some.ensures.1 (sym c.is_text.ensures ∙ c.if-not-is_text.true))
 
-pub returns-else-not-is_text : goal.returns-else-not-is_text
-returns-else-not-is_text c = (moved c.args.line.now c.args.at.now c.in-Some.next c.requires c.in-Some.ensures.0, word_goes c.args.text.now (drop c.args.at.now c.args.line.now) (seen c.in-Some.token) _ c.in-Some.ensures.1 (sym c.is_text.ensures ∙ c.if-not-is_text.false))
+pub returns-else-not-is_text-clause-chose : goal.returns-else-not-is_text-clause-chose
+returns-else-not-is_text-clause-chose c = (moved c.args.line.now c.args.at.now c.in-Some.next c.requires c.in-Some.ensures.0, word_goes c.args.text.now (drop c.args.at.now c.args.line.now) (seen c.in-Some.token) _ c.in-Some.ensures.1 (sym c.is_text.ensures ∙ c.if-not-is_text.false))
+
+pub returns-else-not-is_text-clause-on : goal.returns-else-not-is_text-clause-on
+returns-else-not-is_text-clause-on c = λ _. moves_on c.args.line.now c.args.at.now c.in-Some.next (seen c.in-Some.token) c.in-Some.ensures.1

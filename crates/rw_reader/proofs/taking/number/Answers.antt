@@ -4,11 +4,11 @@ use Rattle.rw_reader.specs.Seen.{seen}
 use Rattle.rw_reader.proofs.Parts.{none_stops, misfit_stops, fits_goes, stops_here, moved}
 use Rattle.rw_reader.proofs.taking.number.Goals as goal
 
-pub returns-in-None : goal.returns-in-None
-returns-in-None c = stops_here (takes (a_number 4294967295)) c.args.line.now c.args.at.now _ c.fault-in-None.ensures c.requires.within (none_stops (a_number 4294967295) (drop c.args.at.now c.args.line.now) c.in-None.ensures)
+pub returns-in-None-clause-took : goal.returns-in-None-clause-took
+returns-in-None-clause-took c = stops_here (takes (a_number c.args.least c.args.most)) c.args.line.now c.args.at.now _ c.fault-in-None.ensures c.requires.within (none_stops (a_number c.args.least c.args.most) (drop c.args.at.now c.args.line.now) c.in-None.ensures)
 
-pub returns-in-None-number_within : goal.returns-in-None-number_within
-returns-in-None-number_within c = stops_here (takes (a_number 4294967295)) c.args.line.now c.args.at.now _ c.fault.ensures c.requires.within (misfit_stops (a_number 4294967295) (drop c.args.at.now c.args.line.now) (seen c.in-Some.token) _ c.in-Some.ensures.1 (sym c.in-None-number_within.ensures))
+pub returns-in-None-number_within-clause-took : goal.returns-in-None-number_within-clause-took
+returns-in-None-number_within-clause-took c = stops_here (takes (a_number c.args.least c.args.most)) c.args.line.now c.args.at.now _ c.fault.ensures c.requires.within (misfit_stops (a_number c.args.least c.args.most) (drop c.args.at.now c.args.line.now) (seen c.in-Some.token) _ c.in-Some.ensures.1 (sym c.in-None-number_within.ensures.number))
 
-pub returns-in-Some-number_within : goal.returns-in-Some-number_within
-returns-in-Some-number_within c = (moved c.args.line.now c.args.at.now c.in-Some.next c.requires c.in-Some.ensures.0, fits_goes (a_number 4294967295) (drop c.args.at.now c.args.line.now) (seen c.in-Some.token) _ _ c.in-Some.ensures.1 (sym c.in-Some-number_within.ensures))
+pub returns-in-Some-number_within-clause-took : goal.returns-in-Some-number_within-clause-took
+returns-in-Some-number_within-clause-took c = (moved c.args.line.now c.args.at.now c.in-Some.next c.requires c.in-Some.ensures.0, fits_goes (a_number c.args.least c.args.most) (drop c.args.at.now c.args.line.now) (seen c.in-Some.token) _ _ c.in-Some.ensures.1 (sym c.in-Some-number_within.ensures.number))

@@ -1,0 +1,15 @@
+use Rattle.std.proofs.Common.{◌-◌, length}
+use Rattle.std.specs.Prelude.{codes}
+use Rattle.rw_reader.specs.Forms.{a_name, name_form, name_in}
+use Rattle.rw_reader.specs.Progress.{IsPlace}
+use Rattle.rw_reader.proofs.Listing.{Listed}
+use Rattle.rw_reader.proofs.taking.names.Given as goal
+
+abbrev pub invariant-names : goal.invariant-names
+invariant-names l = record {
+  place : IsPlace l.line l.at;
+  listed : Listed name_form (codes ",") a_name name_in l.line l.fn.at l.at l.names;
+}
+
+abbrev pub decreases-names : goal.decreases-names
+decreases-names l = length l.line - l.at
