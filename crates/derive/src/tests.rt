@@ -47,6 +47,11 @@ fn skip_closes(rt: HostRuntime) -> Result<(), Fail> {
                 "ok 1\nok 2\nok 3\nok 4\nok closed\n",
             ),
             (
+                "var x : int\nroot x:[x = x, x = x0]\nstep main skip\nprove main 1 ax\nstatus",
+                0,
+                "ok 1\nok 2\nok 3\nok 4\nok closed\n",
+            ),
+            (
                 "var x : int\r\n# a comment\n\nroot x:[x = 1, x = 2]\nstep main skip\nprove main 1 ax\nstatus\nprove main 2 ax\n",
                 1,
                 "ok 1\nok 2\nok 3\nok 4\nok not closed main pending 1 bad 1 4\nE6 no obligation 2\n",
@@ -81,7 +86,7 @@ fn refusals_change_nothing(rt: HostRuntime) -> Result<(), Fail> {
         &rt,
         rt.alloc(),
         &[
-            ("var x : array 4", 1, "E1 syntax 8\n"),
+            ("var x : bool", 1, "E1 syntax 8\n"),
             ("var \0", 1, "E1 syntax 4\n"),
             ("var é : int", 1, "E1 syntax 4\n"),
             ("frob", 1, "E1 syntax 0\n"),
@@ -116,6 +121,170 @@ fn refusals_change_nothing(rt: HostRuntime) -> Result<(), Fail> {
                 "ok 1\nE1 syntax 12\nE1 syntax 12\n",
             ),
         ],
+    )
+}
+
+#[test]
+fn roots_are_tested_in_order(rt: HostRuntime) -> Result<(), Fail> {
+    answers(
+        &rt,
+        rt.alloc(),
+        &[
+            (
+                "var x : int\nvar a : array 4\nroot z:[true, true]\nvar x : int\nroot a:[true, a = 1]",
+                1,
+                "ok 1\nok 2\nE2 unknown z\nE3 duplicate x\nE4 sort 2\n",
+            ),
+            (
+                "var x : int\nroot x:[true]\nroot x,x:[x, true]\nroot x,x:[x = z, x0 = 1]\nroot x,x:[x0 = 1, true]",
+                1,
+                "ok 1\nE1 syntax 12\nE1 syntax 11\nE2 unknown z\nE4 sort 0\n",
+            ),
+            (
+                "var x : int\nvar y : int\nroot x:[x0 = 1, true]\nroot x:[true, x0 = y0]\nroot x:[true, x0 = y]",
+                1,
+                "ok 1\nok 2\nE4 sort 1\nE4 sort 2\nok 3\n",
+            ),
+            (
+                "var a : array 4\nvar x : int\nroot x:[a = zz, a[a] = 1]\nroot x:[forall i:int . a[i] = x => put(a, i, x) = a, true]",
+                1,
+                "ok 1\nok 2\nE2 unknown zz\nok 3\n",
+            ),
+        ],
+    )
+}
+
+#[test]
+fn the_greatest_stays_the_greatest(rt: HostRuntime) -> Result<(), Fail> {
+    answers(
+        &rt,
+        rt.alloc(),
+        &[(
+            "# The last of the first n cells is the greatest of them, and so it stays where nothing is done.\nvar n : int\nvar a : array 8\nroot a:[n <= 8, n < b]\nroot a:[a = n, true]\nroot a:[forall i:int . 0 <= i and i < n => a[i] <= a[n - 1]]\nroot a:[forall i:int . 0 <= i and i < n => a[i] <= a[n - 1], forall j:int . j >= 0 and n > j => a0[j] <= a[n - 1]]\nstatus\nstep main skip\nprove main 2 ax\nstatus\nprove main 1 ax\nstatus\n",
+            1,
+            "ok 1\nok 2\nE2 unknown b\nE4 sort 1\nE1 syntax 59\nok 3\nok not closed main open\nok 4\nE6 no obligation 2\nok not closed main pending 1 none\nok 5\nok closed\n",
+        )],
+    )
+}
+
+// So many fronts, the middle, and as many backs.
+fn nested(
+    alloc: Global,
+    times: u32,
+    front: &str,
+    middle: &str,
+    back: &str,
+) -> Result<String, Fail> {
+    let mut text = String::new(alloc);
+    for _ in 0..times {
+        text.push_str(front)?;
+    }
+    text.push_str(middle)?;
+    for _ in 0..times {
+        text.push_str(back)?;
+    }
+    Ok(text)
+}
+
+// A formula of 2 to the power k parts less 1.
+fn balanced(alloc: Global, k: u32) -> Result<String, Fail> {
+    let mut text = String::from_str(alloc, "true")?;
+    for _ in 1..k {
+        text = format!(in alloc; "({text}) and ({text})")?;
+    }
+    Ok(text)
+}
+
+// The reply to a root with this precondition.
+fn reply_to_root(rt: &impl Abort, alloc: Global, pre: &str, reply: &str) -> Result<(), Fail> {
+    let script = format!(in alloc; "var x : int\nroot x:[{pre}, true]")?;
+    let replies = format!(in alloc; "ok 1\n{reply}\n")?;
+    let refused = u8::from(!reply.starts_with("ok"));
+    answers(rt, alloc, &[(script.as_str(), refused, replies.as_str())])
+}
+
+#[test]
+fn formulas_have_1024_parts_64_deep(rt: HostRuntime) -> Result<(), Fail> {
+    let alloc = rt.alloc();
+    let parts = balanced(alloc, 10)?;
+    for (times, front, middle, reply) in [
+        (1, "not (", parts.as_str(), "ok 2"),
+        (2, "not (", parts.as_str(), "E7 limit weight 1024"),
+        (63, "not (", "true", "ok 2"),
+        (64, "not (", "true", "E7 limit depth 64"),
+        (511, "(", "true", "ok 2"),
+    ] {
+        let pre = nested(alloc, times, front, middle, ")")?;
+        reply_to_root(&rt, alloc, pre.as_str(), reply)?;
+    }
+    Ok(())
+}
+
+#[test]
+fn brackets_of_a_request_count_in_the_nest(rt: HostRuntime) -> Result<(), Fail> {
+    let alloc = rt.alloc();
+    let line = nested(alloc, 512, "(", "", "")?;
+    let script = format!(in alloc; "root x:[{line}")?;
+    answers(&rt, alloc, &[(script.as_str(), 1, "E1 syntax 519\n")])
+}
+
+// The last bytes of the output where a line is answered so often.
+fn ends_with(
+    rt: &impl Abort,
+    alloc: Global,
+    times: u32,
+    line: &str,
+    end: &str,
+) -> Result<(), Fail> {
+    let script = nested(alloc, times, line, "", "")?;
+    let mut input = MemorySource::new(alloc, script.as_bytes(), 100000, &[])?;
+    let mut output = MemorySink::new(alloc, 1000000, 100000, &[])?;
+    answer(alloc, "batch", &mut input, &mut output)?;
+    assert!(rt; output.written().ends_with(end.as_bytes()));
+    Ok(())
+}
+
+#[test]
+fn a_project_takes_65536_edits(rt: HostRuntime) -> Result<(), Fail> {
+    let line = "step main skip\n";
+    ends_with(&rt, rt.alloc(), 65536, line, "ok 65536\n")?;
+    ends_with(
+        &rt,
+        rt.alloc(),
+        65537,
+        line,
+        "ok 65536\nE7 limit edits 65536\n",
+    )
+}
+
+#[test]
+fn lines_of_edits_have_16777216_bytes(rt: HostRuntime) -> Result<(), Fail> {
+    let alloc = rt.alloc();
+    let spaces = nested(alloc, 65522, " ", "", "")?;
+    let line = format!(in alloc; "step main skip{spaces}\n")?;
+    ends_with(
+        &rt,
+        alloc,
+        257,
+        line.as_str(),
+        "ok 256\nE7 limit bytes 16777216\n",
+    )
+}
+
+#[test]
+fn a_project_takes_64_globals(rt: HostRuntime) -> Result<(), Fail> {
+    let alloc = rt.alloc();
+    let mut script = String::new(alloc);
+    for k in 0..65 {
+        let line = format!(in alloc; "var x{k}y : int\n")?;
+        script.push_str(line.as_str())?;
+    }
+    ends_with(
+        &rt,
+        alloc,
+        1,
+        script.as_str(),
+        "ok 64\nE7 limit globals 64\n",
     )
 }
 
