@@ -12,7 +12,7 @@ use Rattle.rw_printer.specs.Readable.{readable_term, readable_formula}
 
 -- each nest is at most 512
 abbrev pub StaysWithin : List ℕ → Type 0
-StaysWithin ns = AreWithin ns
+StaysWithin ns = AreWithin 512 ns
 
 -- as a term
 abbrev pub TermReadsBack : List ℕ → Term → Type 0
