@@ -1,8 +1,8 @@
 //! Tables of cases, worked out by hand.
 
-use crate::applied::{Applied, Child, Context};
+use crate::applied::Context;
 use crate::code::is_code;
-use crate::prog::{Arm, Code, ModCode, Param, Pin, ProcCode, Prog, Spec};
+use crate::prog::{Arm, Pin, Prog, Spec};
 use crate::scoped::well_scoped;
 use rw_items::{Boxed, Items};
 use rw_terms::name::Name;
@@ -417,89 +417,28 @@ fn blocks_bring_names_and_take_them_away(rt: HostRuntime) -> Result<(), Fail> {
     scopes_are(&rt, alloc, &context, &cases)
 }
 
-fn copied(alloc: Global, text: &str) -> Result<Prog, Fail> {
+// Whether a copy is code just as the program is.
+fn copy_case(alloc: Global, text: &str) -> Result<bool, Fail> {
     let prog = program(alloc, text)?;
-    Ok(prog.get().copy(alloc)?)
+    let again = Boxed::new(alloc, prog.get().copy(alloc)?)?;
+    Ok(is_code(again.get()))
 }
 
-fn params(alloc: Global) -> Result<Items<Param>, Fail> {
-    let mut params = Items::new(alloc);
-    params.push(Param {
-        name: name("x")?,
-        sort: Sort::Int,
-    })?;
-    Ok(params)
-}
-
-fn body(alloc: Global) -> Result<ProcCode, Fail> {
-    let values = params(alloc)?;
-    let results = Items::new(alloc);
-    let name = name("F")?;
-    Ok(ProcCode {
-        name,
-        place: 0,
-        values,
-        results,
-        body: Prog::Skip,
-    })
-}
-
-fn module(alloc: Global) -> Result<ModCode, Fail> {
-    let mut operations = Items::new(alloc);
-    operations.push(body(alloc)?)?;
-    let state = params(alloc)?;
-    let name = name("M")?;
-    Ok(ModCode {
-        name,
-        place: 1,
-        state,
-        start: Prog::Skip,
-        operations,
-    })
-}
-
-fn code(alloc: Global) -> Result<Code, Fail> {
-    let mut procs = Items::new(alloc);
-    procs.push(body(alloc)?)?;
-    let mut modules = Items::new(alloc);
-    modules.push(module(alloc)?)?;
-    Ok(Code {
-        main: Prog::Skip,
-        procs,
-        modules,
-    })
-}
-
-fn applied(alloc: Global) -> Result<Applied, Fail> {
-    let frame = one_name(alloc, "x")?;
-    let context = context(alloc)?;
-    let mut children = Items::new(alloc);
-    children.push(Child {
-        context,
-        spec: Spec {
-            frame,
-            pre: Formula::True,
-            post: Formula::True,
-        },
-    })?;
-    Ok(Applied {
-        skeleton: Prog::Kid(0),
-        children,
-        obligations: Items::new(alloc),
-    })
-}
-
-fn copies_stand(rt: &impl Abort, alloc: Global) -> Result<(), Fail> {
-    let code = code(alloc)?.copy(alloc)?;
-    assert_eq!(rt; code.modules.len(), 1);
-    let applied = applied(alloc)?.copy(alloc)?;
-    assert_eq!(rt; applied.children.len(), 1);
+fn copies_are(rt: &impl Abort, alloc: Global, cases: &[(&str, bool)]) -> Result<(), Fail> {
+    for (text, want) in cases {
+        let found = copy_case(alloc, text)?;
+        assert_eq!(rt; found, *want, "at {text}");
+    }
     Ok(())
 }
 
 #[test]
-fn copies_are_made(rt: HostRuntime) -> Result<(), Fail> {
-    let prog = copied(rt.alloc(), "x 0 x < x skip con-D do")?;
-    assert!(rt; !is_code(&prog));
-    copies_stand(&rt, rt.alloc())
+fn copies_are_what_they_copy(rt: HostRuntime) -> Result<(), Fail> {
+    let cases = [
+        ("x 0 x < x set-x skip var-y ; do", true),
+        ("x 0 < x call-x x op-M ; open-N if", true),
+        ("x kid con-D", false),
+        ("true spec-x", false),
+    ];
+    copies_are(&rt, rt.alloc(), &cases)
 }
