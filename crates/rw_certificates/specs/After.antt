@@ -1,0 +1,71 @@
+-- The goals after the lines of a certificate, and what they say of it.
+use Rattle.std.specs.Prelude.{◌≡◌, ℕ, ◌+◌, ltb, Bool, true, false, List, [], ◌∷◌, ◌++◌, length, take, Option, Some, None}
+use Rattle.rw_terms.specs.declared.sequent.Sequent.{Sequent}
+use Rattle.rw_goals.specs.declared.library.Library.{Library}
+use Rattle.rw_goals.specs.Premises.{Effect, Fails, Premises}
+use Rattle.rw_certificates.specs.declared.check.Fault.{Fault}
+use Rattle.rw_certificates.specs.declared.line.CertLine.{CertLine}
+use Rattle.rw_certificates.specs.declared.line.Cert.{Cert}
+use Rattle.rw_certificates.specs.declared.line.Verdict.{Verdict}
+use Rattle.rw_certificates.specs.declared.line.Verdict.TheVariants.{Good, Bad}
+use Rattle.rw_certificates.specs.Rules.{after_line}
+
+-- the open goals, the top one first, or the first failing line with its place in the line and its cause
+pub data Progress : Type 0 where
+  Open : List Sequent → Progress
+  Failed : ℕ → ℕ → ℕ → Progress
+
+-- the goals, unless they are more than 64
+abbrev pub capped : Bool → List Sequent → ℕ → Progress
+capped true goals n = Failed n 0 7
+capped false goals n = Open goals
+
+-- the premises in place of the top goal
+abbrev pub replaced : Effect → List Sequent → ℕ → Progress
+replaced (Fails sub cause) rest n = Failed n sub cause
+replaced (Premises ps) rest n = capped (ltb 64 (length (ps ++ rest))) (ps ++ rest) n
+
+-- by a library, of which lemmas may be cited below a table place
+module _ (library : Library) (before : ℕ) where
+  -- the line of number n
+  abbrev pub step : Progress → CertLine → ℕ → Progress
+  step (Failed line sub cause) l n = Failed line sub cause
+  step (Open []) l n = Failed n 0 1
+  step (Open (q ∷ rest)) l n = replaced (after_line library before q l) rest n
+
+  -- after lines of which the first has number n
+  abbrev pub after_lines : Progress → List CertLine → ℕ → Progress
+  after_lines p [] n = p
+  after_lines p (l ∷ ls) n = after_lines (step p l n) ls (n + 1)
+
+  -- after the first n lines of a certificate of the goal
+  abbrev pub after : Sequent → Cert → ℕ → Progress
+  after q cert n = after_lines (Open (q ∷ [])) (take n cert.lines) 1
+
+  -- no line fails, and no goal is left
+  abbrev pub Follows : Sequent → Cert → Type 0
+  Follows q cert = after q cert (length cert.lines) ≡ Open []
+
+-- what a line's fault, or none, makes of the goals
+abbrev pub progress : Option Fault → List Sequent → ℕ → Progress
+progress None goals n = Open goals
+progress (Some fault) goals n = Failed n fault.sub fault.cause
+
+-- what is said of a certificate with so many lines
+abbrev pub told : Progress → ℕ → Verdict
+told (Open []) lines = Good
+told (Open (q ∷ rest)) lines = Bad (lines + 1) 0 2
+told (Failed line sub cause) lines = Bad line sub cause
+
+-- the lines that are checked, the failing one among them
+abbrev pub counted : Progress → ℕ → ℕ
+counted (Open goals) lines = lines
+counted (Failed line sub cause) lines = line
+
+-- what is said of a certificate of the goal by a library
+abbrev pub verdict : Library → ℕ → Sequent → Cert → Verdict
+verdict library before q cert = told (after library before q cert (length cert.lines)) (length cert.lines)
+
+-- how many lines of a certificate are checked
+abbrev pub checked : Library → ℕ → Sequent → Cert → ℕ
+checked library before q cert = counted (after library before q cert (length cert.lines)) (length cert.lines)

@@ -1,0 +1,11 @@
+//! Certificates that show a sequent valid, and their checker.
+#![tactic(auto)]
+
+pub mod after;
+pub mod check;
+pub mod error;
+pub mod line;
+#[cfg(test)]
+mod tests;
+
+pub use rw_goals::library::{Definition, Item, Lemma, Library};

@@ -1,0 +1,3 @@
+pub mod Axioms
+pub mod Rewritten
+pub mod Equality

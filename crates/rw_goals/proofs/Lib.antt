@@ -1,0 +1,7 @@
+pub mod Weights
+pub mod Same
+pub mod Sound
+pub mod Parted
+pub mod Closes
+pub mod Sorted
+pub mod Places

@@ -1,0 +1,8 @@
+use Rattle.std.proofs.Common.{◌≡◌, drop}
+use Rattle.std.specs.List.{list_any}
+use Rattle.rw_terms.specs.declared.term.Formula.TheViews.{out-Formula}
+use Rattle.rw_goals.specs.Closing.{is_reflexive}
+use Rattle.rw_goals.proofs.closing.any_reflexive.Given as goal
+
+abbrev pub invariant-loop-f : goal.invariant-loop-f
+invariant-loop-f l = list_any (λ f. is_reflexive (out-Formula f)) (drop l.f-index l.formulas) ≡ list_any (λ f. is_reflexive (out-Formula f)) l.formulas
