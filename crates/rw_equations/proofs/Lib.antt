@@ -1,3 +1,0 @@
-pub mod Rewrites
-pub mod True
-pub mod Equal

@@ -1,3 +1,0 @@
-pub mod Axioms
-pub mod Rewritten
-pub mod Equality
