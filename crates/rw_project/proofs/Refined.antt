@@ -32,7 +32,7 @@ use Rattle.rw_tree.specs.declared.edit.Place.{Place}
 use Rattle.rw_tree.specs.declared.status.Status.{Status}
 use Rattle.rw_tree.specs.declared.status.Status.TheVariants as status
 use Rattle.rw_tree.specs.Edits.{globals_of, root_of, step_at, cert_at}
-use Rattle.rw_tree.specs.Anew.{main_context, judged, judged_by, judged_step, root_judged, held_up, state_of, state_by, root_place, anew, IsClosed}
+use Rattle.rw_tree.specs.Anew.{main_context, judged, judged_by, judged_step, root_judged, held_up, no_library, state_of, state_by, root_place, anew, IsClosed}
 use Rattle.rw_project.specs.Texts.{is_good, closed_text, closing_text, place_text, status_text}
 use Rattle.rw_project.specs.Session.{History, history_of, reply, reply_by}
 use Rattle.rw_reader.specs.Reading.{reading, reads}
@@ -47,7 +47,7 @@ good_verdict (verdicts.Bad line sub cause) e = absurd (cc)
 -- a good obligation is valid
 good_need : (q : Sequent) (cert : Option Cert) → state_of q cert ≡ need.Good → Valid [] q
 good_need q None e = absurd (cc)
-good_need q (Some cert) e = good_valid q cert (verdict q cert) refl (good_verdict (verdict q cert) e) []
+good_need q (Some cert) e = good_valid no_library 0 q cert (verdict no_library 0 q cert) refl (good_verdict (verdict no_library 0 q cert) e)
 
 good_first : (k : ℕ) (state : NeedState) → held_up k state status.Good ≡ status.Good → state ≡ need.Good
 good_first k need.Good e = refl

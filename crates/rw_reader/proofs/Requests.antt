@@ -1,21 +1,22 @@
 -- The forms of requests keep their choices apart.
-use Rattle.std.proofs.Common.{◌≡◌, ℕ, Bool, true, false, cond, List, [], map, Option, Some, None, refl, sym, ap, ◌∙◌, arith, true≢false}
-use Rattle.std.specs.Prelude.{codes, is_some}
+use Rattle.std.proofs.Common.{◌≡◌, ℕ, Bool, true, false, cond, List, [], ◌∷◌, map, Option, Some, None, refl, sym, ap, ◌∙◌, arith, true≢false}
+use Rattle.std.specs.Prelude.{codes, is_some, ◌||◌}
 use Rattle.rw_terms.specs.Names.{is_name, is_reserved, reserved}
 use Rattle.rw_terms.specs.declared.term.Sort.{Sort}
 use Rattle.rw_terms.specs.declared.term.Sort.TheVariants as sorts
 use Rattle.rw_terms.specs.declared.term.Formula.{Formula}
 use Rattle.rw_programs.specs.declared.prog.Spec.{Spec}
 use Rattle.rw_sequents.specs.declared.line.CertLine.{CertLine}
+use Rattle.rw_sequents.specs.declared.line.CertLine.TheVariants as lines
 use Rattle.rw_syntax.specs.Machine.{run_within}
 use Rattle.rw_syntax.specs.declared.state.State.TheVariants.{Wants as wants}
 use Rattle.rw_syntax.specs.Grammar.{as_formula}
 use Rattle.rw_reader.specs.declared.request.Request.{Request}
 use Rattle.rw_reader.specs.Tokens.{Token, text}
 use Rattle.rw_reader.specs.Classes.{mark_texts, text_class, class_of}
-use Rattle.rw_reader.specs.Forms.{is_text, Given, a_request, Form, gives, formula, mark, sort, name_form, name_in, names, frame, bracketed, spec, rule, line_form, line_in, cert, var_form, root_form, step_form, prove_form, request_form}
+use Rattle.rw_reader.specs.Forms.{is_text, Given, a_request, a_line, Form, gives, takes, a_number, more_of, formula, cut, numbered, numbered_rules, later_rules, mark, sort, name_form, name_in, names, frame, bracketed, spec, rule, line_form, line_in, cert, var_form, root_form, step_form, prove_form, request_form}
 use Rattle.rw_reader.specs.Reading.{ends_value}
-use Rattle.rw_reader.proofs.Grammar.{text_is, starts, Keeps}
+use Rattle.rw_reader.proofs.Grammar.{text_is, starts, Keeps, keeps_followed}
 
 abbrev pub IsRequest : Given → Type 0
 IsRequest v = (r : Request) × (v ≡ a_request r)
@@ -78,9 +79,72 @@ spec_keeps : (P : Given → Type 0) (F : Token → Bool) (k : Spec → Form) →
 unfolding spec
 spec_keeps P F k h = frame_keeps P F (λ xs. bracketed xs k) (λ xs. bracketed_keeps P F xs k h)
 
+numbered_by : (P : Given → Type 0) (F : Token → Bool) (k : CertLine → Form) → ((l : CertLine) → Keeps P F (k l)) → (make : ℕ → CertLine) → Keeps P F (takes (a_number 0 4294967295) (λ n. k (make n)))
+numbered_by P F k h make = (refl, λ n. h (make n))
+
+numbered_keep : (P : Given → Type 0) (F : Token → Bool) (k : CertLine → Form) → ((l : CertLine) → Keeps P F (k l)) → Keeps P F (numbered k)
+unfolding numbered numbered_rules later_rules
+numbered_keep P F k h =
+    let n = numbered_by P F k h in (
+      refl,
+      n lines.DropL,
+      (
+        refl,
+        n lines.DropR,
+        (
+          refl,
+          n lines.NotL,
+          (
+            refl,
+            n lines.NotR,
+            (
+              refl,
+              n lines.AndL,
+              (
+                refl,
+                n lines.AndR,
+                (refl, n lines.OrL, (refl, n lines.OrR, (refl, n lines.ImpL, (refl, λ x. n lines.ImpR)))),
+              ),
+            ),
+          ),
+        ),
+      ),
+    )
+
+rule_keeps : (P : Given → Type 0) (F : Token → Bool) (k : CertLine → Form) → ((l : CertLine) (t : Token) → starts (k l) F t ≡ true → ends_value t ≡ true) → ((l : CertLine) → Keeps P F (k l)) → Keeps P F (rule k)
+unfolding rule cut formula numbered numbered_rules later_rules
+rule_keeps P F k e h = (
+  refl,
+  h lines.Ax,
+  (
+    refl,
+    h lines.FalseL,
+    (
+      refl,
+      h lines.TrueR,
+      (
+        refl,
+        h lines.Refl,
+        (refl, formula_keeps P F 512 (λ f. k (lines.Cut f)) (λ f t. e (lines.Cut f) t) (λ f. h (lines.Cut f)), numbered_keep P F k h),
+      ),
+    ),
+  ),
+)
+
+line_keeps : Keeps (λ g. Unit {0}) ends_value line_form
+unfolding line_form
+line_keeps = rule_keeps (λ g. Unit {0}) ends_value (λ l. gives (a_line l)) (λ l t s. s) (λ l. tt)
+
+semicolon_or : (F : Token → Bool) (f : Form) (t : Token) (b : Bool) → is_text (codes ";") t ≡ b → (b || starts f F t) ≡ true → (starts f F t ≡ true → ends_value t ≡ true) → ends_value t ≡ true
+semicolon_or F f t true z s d = ap ends_value (text_is (codes ";") t z) ∙ semicolon_ends
+semicolon_or F f t false z s d = d s
+
 cert_keeps : (P : Given → Type 0) (F : Token → Bool) (k : List CertLine → Form) → ((ls : List CertLine) (t : Token) → starts (k ls) F t ≡ true → ends_value t ≡ true) → ((ls : List CertLine) → starts (k ls) F (text (codes ";")) ≡ false) → ((ls : List CertLine) → Keeps P F (k ls)) → Keeps P F (cert k)
-unfolding cert line_form rule
-cert_keeps P F k d e h = (refl, λ x. (ends_value, semicolon_ends, (λ gs t z. d (map line_in gs) t z), (λ gs. e (map line_in gs)), (refl, λ y. tt), (λ gs. h (map line_in gs))))
+unfolding cert
+cert_keeps P F k d e h =
+    keeps_followed line_form (λ g. more_of line_form (codes ";") (g ∷ []) (λ gs. k (map line_in gs))) (λ g. Unit {0}) P ends_value F
+    (λ g t s. semicolon_or F (k (map line_in (g ∷ []))) t (is_text (codes ";") t) refl s (d (map line_in (g ∷ [])) t))
+    (λ g. (ends_value, semicolon_ends, (λ gs t z. d (map line_in gs) t z), (λ gs. e (map line_in gs)), line_keeps, (λ gs. h (map line_in gs)))) line_keeps
 
 pub requests_keep : Keeps IsRequest nothing request_form
 unfolding request_form var_form root_form step_form prove_form

@@ -73,3 +73,7 @@ shortens here t behind e = go (front_token here) refl e
 -- the next token stands further on
 pub moves_on : (line : List ℕ) (at next : ℕ) (t : Token) → token_at (drop at line) ≡ Some (t, drop next line) → at < next
 moves_on line at next t e = let a = shortens (drop at line) t (drop next line) e in let b = length-drop at line in let c = length-drop next line in omega arith
+
+-- and so further on than an earlier place
+pub further : (line : List ℕ) (start at next : ℕ) (t : Token) → start ≤ at → token_at (drop at line) ≡ Some (t, drop next line) → start ≤ next
+further line start at next t h e = let m = moves_on line at next t e in omega arith

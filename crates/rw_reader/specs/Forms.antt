@@ -7,6 +7,8 @@ use Rattle.rw_terms.specs.declared.term.Formula.{Formula}
 use Rattle.rw_programs.specs.declared.prog.Spec.{Spec}
 use Rattle.rw_sequents.specs.declared.line.CertLine.{CertLine}
 use Rattle.rw_sequents.specs.declared.line.CertLine.TheVariants as lines
+use Rattle.rw_reader.specs.declared.certificate.Numbered.{Numbered}
+use Rattle.rw_reader.specs.declared.certificate.Numbered.TheVariants as rules
 use Rattle.rw_laws.specs.declared.step.BasicStep.TheVariants as laws
 use Rattle.rw_tree.specs.declared.edit.TreeName.TheVariants as trees
 use Rattle.rw_tree.specs.declared.edit.Place.{Place}
@@ -206,9 +208,40 @@ root_form = spec (λ s. gives (a_request (requests.Edit (edits.Root s))))
 unfoldable pub step_form : Form
 step_form = mark (codes "main") (mark (codes "skip") (gives (a_request (requests.Edit (edits.Step main_tree (steps.Basic laws.Skip))))))
 
+-- the line of a rule that names a formula by its number
+abbrev pub with_number : Numbered → ℕ → CertLine
+with_number rules.DropL n = lines.DropL n
+with_number rules.DropR n = lines.DropR n
+with_number rules.NotL n = lines.NotL n
+with_number rules.NotR n = lines.NotR n
+with_number rules.AndL n = lines.AndL n
+with_number rules.AndR n = lines.AndR n
+with_number rules.OrL n = lines.OrL n
+with_number rules.OrR n = lines.OrR n
+with_number rules.ImpL n = lines.ImpL n
+with_number rules.ImpR n = lines.ImpR n
+
+-- the last of the rules that name a formula
+unfoldable pub later_rules : (Numbered → Form) → Form
+later_rules k = either (codes "orL") (k rules.OrL) (either (codes "orR") (k rules.OrR) (either (codes "impL") (k rules.ImpL) (mark (codes "impR") (k rules.ImpR))))
+
+-- the rules that name a formula
+unfoldable pub numbered_rules : (Numbered → Form) → Form
+numbered_rules k = either (codes "dropL") (k rules.DropL) (either (codes "dropR") (k rules.DropR) (either (codes "notL") (k rules.NotL) (either (codes "notR") (k rules.NotR) (either (codes "andL") (k rules.AndL) (either (codes "andR") (k rules.AndR) (later_rules k))))))
+
+-- such a rule and the number
+unfoldable pub numbered : (CertLine → Form) → Form
+numbered k = numbered_rules (λ r. takes (a_number 0 4294967295) (λ n. k (with_number r n)))
+
+-- the formula of a cut
+unfoldable pub cut : (CertLine → Form) → Form
+cut k = formula 512 (λ f. k (lines.Cut f))
+
 -- a rule and its arguments
 unfoldable pub rule : (CertLine → Form) → Form
-rule k = mark (codes "ax") (k lines.Ax)
+rule k =
+    either (codes "ax") (k lines.Ax) (either (codes "falseL") (k lines.FalseL) (either (codes "trueR") (k lines.TrueR)
+    (either (codes "refl") (k lines.Refl) (either (codes "cut") (cut k) (numbered k)))))
 
 -- a line of a certificate as an item
 unfoldable pub line_form : Form

@@ -1,6 +1,7 @@
 //! Reads requests, terms and formulas: exactly the grammar, with the exact offset of a fault.
 #![tactic(auto)]
 
+pub mod certificate;
 mod class;
 mod expression;
 pub mod laws;

@@ -1,11 +1,12 @@
 //! Reads a request.
 
-ghost use Rattle.std.specs.Prelude.{◌≡◌, ℕ, ◌≤◌, ◌<◌, ◌^◌, ◌⊎◌, length, IfOk, IfErr};
-ghost use Rattle.rw_reader.specs.Forms.{main_tree, var_form, root_form, step_form, prove_form, rule, cert};
+ghost use Rattle.std.specs.Prelude.{◌≡◌, ℕ, ◌<◌, ◌^◌, ◌⊎◌, length, IfOk, IfErr};
+ghost use Rattle.rw_reader.specs.Forms.{main_tree, var_form, root_form, step_form, prove_form};
 ghost use Rattle.rw_reader.specs.Reading.{reading, reads, fault};
-ghost use Rattle.rw_reader.specs.Progress.{IsPlace, Took, Answers};
+ghost use Rattle.rw_reader.specs.Progress.{IsPlace, Answers};
 ghost use Rattle.rw_reader.specs.declared.request.ReadError.TheVariants as read_error;
 
+use crate::certificate::cert;
 use crate::request::{ReadError, Request};
 use crate::taking::{accept, end, expect, number, sort, variable};
 use crate::token::skip;
@@ -13,7 +14,7 @@ use crate::value::spec;
 use rw_items::Items;
 use rw_laws::step::BasicStep;
 use rw_programs::prog::Param;
-use rw_sequents::line::{Cert, CertLine};
+use rw_sequents::line::Cert;
 use rw_tree::edit::{Edit, Path, Place, Step, TreeName};
 use std::alloc::Global;
 
@@ -87,31 +88,6 @@ fn read_prove(alloc: Global, line: &[u8], mut at: usize) -> Result<Request, Read
     end(line, at)?;
     let cert = Cert { lines };
     Ok(Request::Edit(Edit::Prove(main_tree(alloc), number, cert)))
-}
-
-// A rule and its arguments.
-fn rule(line: &[u8], at: &mut usize) -> Result<CertLine, ReadError>
-    requires { IsPlace line.now at.old }
-    ensures took { Took rule line.now at.old at.new result }
-    ensures on { at.old ≤ at.new }
-{
-    expect(line, at, b"ax")?;
-    Ok(CertLine::Ax)
-}
-
-// Lines with semicolons between them.
-fn cert(alloc: Global, line: &[u8], at: &mut usize) -> Result<Items<CertLine>, ReadError>
-    requires { IsPlace line.now at.old }
-    ensures { Took cert line.now at.old at.new result }
-{
-    let mut lines = Items::new(alloc);
-    let first = rule(line, at)?;
-    lines.push(first)?;
-    'lines: while accept(line, at, b";") {
-        let next = rule(line, at)?;
-        lines.push(next)?;
-    }
-    Ok(lines)
 }
 
 fn main_tree(alloc: Global) -> Place

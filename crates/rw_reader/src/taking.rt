@@ -80,6 +80,7 @@ pub fn number(line: &[u8], at: &mut usize, least: u32, most: u32) -> Result<u32,
     requires { IsPlace line.now at.old }
     ensures within { IfOk result (λ n. n ≤ most) }
     ensures took { Took (takes (a_number least most)) line.now at.old at.new result }
+    ensures on { at.old ≤ at.new }
 {
     match token_at(line, *at) {
         Some((token, next)) => match number_within(least, most, token) {

@@ -59,7 +59,8 @@ fn part(alloc: Global, most: u64, goal: u8, line: &[u8], at: &mut usize) -> Resu
     requires place { IsPlace line.now at.old }
     requires bound { most ≤ 512 }
     requires level { goal ≤ 9 }
-    ensures { Took (rest_of most goal []) line.now at.old at.new result }
+    ensures took { Took (rest_of most goal []) line.now at.old at.new result }
+    ensures on { at.old ≤ at.new }
 {
     let mut state = State::Wants(Frames::new(alloc));
     'tokens: while let Some((class, next)) = next_class(line, *at, &state) {
@@ -89,7 +90,8 @@ pub fn formula(
 ) -> Result<Boxed<Formula>, ReadError>
     requires place { IsPlace line.now at.old }
     requires bound { most ≤ 512 }
-    ensures { Took (formula most) line.now at.old at.new result }
+    ensures took { Took (formula most) line.now at.old at.new result }
+    ensures on { at.old ≤ at.new }
 {
     let part = part(alloc, most, FORMULA, line, at)?;
     Ok(as_formula(alloc, part)?)

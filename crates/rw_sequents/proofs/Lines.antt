@@ -1,40 +1,32 @@
 -- Each line is sound: where its premises are valid, so is the goal.
-use Rattle.std.proofs.Common.{◌≡◌, ◌||◌, Bool, true, false, List, [], ◌∷◌, refl, sym, subst, true≢false}
-use Rattle.std.specs.List.{list_any}
+use Rattle.std.proofs.Common.{ℕ}
 use Rattle.rw_terms.specs.declared.sequent.Sequent.{Sequent}
-use Rattle.rw_terms.specs.Truth.{Definition, holds}
-use Rattle.rw_terms.specs.Validity.{Each, Valid}
-use Rattle.rw_sequents.specs.declared.effect.Effect.{Effect}
-use Rattle.rw_sequents.specs.declared.effect.Effect.TheVariants.{Fails, Closes, One, Two}
+use Rattle.rw_terms.specs.Validity.{Valid}
+use Rattle.rw_goals.specs.declared.closing.Closing.TheVariants as closing
+use Rattle.rw_goals.specs.declared.connectives.Connective.TheVariants as connective
+use Rattle.rw_goals.specs.declared.library.Library.{Library}
+use Rattle.rw_goals.specs.Library.{definitions_of}
+use Rattle.rw_goals.proofs.Sound.{AllValid}
+use Rattle.rw_goals.proofs.Closes.{closing_sound}
+use Rattle.rw_goals.proofs.Parted.{parted_left, parted_right, dropped_left, dropped_right, cut_sound}
 use Rattle.rw_sequents.specs.declared.line.CertLine.{CertLine}
 use Rattle.rw_sequents.specs.declared.line.CertLine.TheVariants as line
-use Rattle.rw_sequents.specs.Same.{same_formula}
-use Rattle.rw_sequents.specs.Rules.{closes_if, after_line}
-use Rattle.rw_sequents.proofs.Same.{formula_told}
+use Rattle.rw_sequents.specs.Rules.{after_line}
 
-or_cases : {C : Type 0} (a b : Bool) → (a || b) ≡ true → (a ≡ true → C) → (b ≡ true → C) → C
-or_cases true b e f g = f refl
-or_cases false b e f g = g e
-
--- a list of which each item has P and some item passes a test, which no item with P does
-none_passes : {X : Type 0} (P : X → Type 0) (test : X → Bool) → ((x : X) → test x ≡ true → ¬ (P x)) → (l : List X) → list_any test l ≡ true → ¬ (Each P l)
-none_passes P test deny [] e h = true≢false (sym e)
-none_passes P test deny (x ∷ xs) e h = or_cases (test x) _ e (λ t. deny x t h.0) (λ t. none_passes P test deny xs t h.1)
-
-module _ (library : List Definition) where
-  -- the premises are valid, and the line does not fail
-  abbrev pub AllValid : Effect → Type 0
-  AllValid (Fails sub cause) = ⊥
-  AllValid Closes = Unit {0}
-  AllValid (One p) = Valid library p
-  AllValid (Two p r) = Valid library p × Valid library r
-
-  closes : (b : Bool) → AllValid (closes_if b) → b ≡ true
-  closes true v = refl
-  closes false v = absurd v
-
-  pub line_sound : (q : Sequent) (l : CertLine) → AllValid (after_line q l) → Valid library q
-  line_sound q line.Ax v = λ s0 s i j left right.
-      none_passes (λ f. holds library f s0 s []) _
-      (λ f e h. none_passes (λ g. ¬ (holds library g s0 s [])) (same_formula f) (λ g k deny. deny (subst (λ x. holds library x s0 s []) (formula_told f g k) h)) q.right e right)
-      q.left (closes _ v) left
+module _ (library : Library) (before : ℕ) where
+  pub line_sound : (q : Sequent) (l : CertLine) → AllValid (definitions_of library) (after_line library before q l) → Valid (definitions_of library) q
+  line_sound q line.Ax v = closing_sound (definitions_of library) closing.Common q v
+  line_sound q line.FalseL v = closing_sound (definitions_of library) closing.False q v
+  line_sound q line.TrueR v = closing_sound (definitions_of library) closing.True q v
+  line_sound q line.Refl v = closing_sound (definitions_of library) closing.Reflexive q v
+  line_sound q (line.Cut f) v = cut_sound (definitions_of library) library f q v
+  line_sound q (line.DropL i) v = dropped_left (definitions_of library) q i v
+  line_sound q (line.DropR j) v = dropped_right (definitions_of library) q j v
+  line_sound q (line.NotL i) v = parted_left (definitions_of library) connective.Not q i v
+  line_sound q (line.NotR j) v = parted_right (definitions_of library) connective.Not q j v
+  line_sound q (line.AndL i) v = parted_left (definitions_of library) connective.And q i v
+  line_sound q (line.AndR j) v = parted_right (definitions_of library) connective.And q j v
+  line_sound q (line.OrL i) v = parted_left (definitions_of library) connective.Or q i v
+  line_sound q (line.OrR j) v = parted_right (definitions_of library) connective.Or q j v
+  line_sound q (line.ImpL i) v = parted_left (definitions_of library) connective.Imp q i v
+  line_sound q (line.ImpR j) v = parted_right (definitions_of library) connective.Imp q j v

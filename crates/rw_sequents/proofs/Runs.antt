@@ -2,10 +2,11 @@
 use Rattle.std.proofs.Common.{◌≡◌, ℕ, ◌+◌, Bool, true, false, List, [], ◌∷◌, length, reverse, take, refl, sym, ◌∙◌, ap, subst, drop, get_or, ◌<◌, ◌≤◌, add-one, drop-cons, ◌++◌}
 use Rattle.std.proofs.lemmas.List.{reverse-append, drop_all}
 use Rattle.std.proofs.Math.Seq.{take-length}
-use Rattle.rw_terms.specs.Truth.{Definition}
 use Rattle.rw_terms.specs.declared.sequent.Sequent.{Sequent}
-use Rattle.rw_sequents.specs.declared.effect.Effect.{Effect}
-use Rattle.rw_sequents.specs.declared.effect.Effect.TheVariants.{Fails, Closes, One, Two}
+use Rattle.rw_goals.specs.declared.library.Library.{Library}
+use Rattle.rw_goals.specs.Library.{definitions_of}
+use Rattle.rw_goals.specs.Premises.{Effect, Fails, Premises}
+use Rattle.rw_goals.proofs.Sound.{AllValid}
 use Rattle.rw_sequents.specs.declared.line.CertLine.{CertLine}
 use Rattle.rw_sequents.specs.declared.line.Cert.{Cert}
 use Rattle.rw_sequents.specs.declared.line.Verdict.{Verdict}
@@ -13,41 +14,43 @@ use Rattle.rw_sequents.specs.declared.line.Verdict.TheVariants.{Good, Bad}
 use Rattle.rw_terms.specs.Validity.{Each, Valid}
 use Rattle.rw_sequents.specs.Rules.{after_line}
 use Rattle.rw_sequents.specs.After.{Progress, Open, Failed, capped, replaced, step, after_lines, after, Follows, told, verdict, counted, checked}
-use Rattle.rw_sequents.proofs.Lines.{AllValid, line_sound}
+use Rattle.rw_sequents.proofs.Lines.{line_sound}
 
-pub stays : (ls : List CertLine) (a b c n : ℕ) → after_lines (Failed a b c) ls n ≡ Failed a b c
-stays [] a b c n = refl
-stays (l ∷ ls) a b c n = stays ls a b c (n + 1)
+pub stays : (library : Library) (before : ℕ) (ls : List CertLine) (a b c n : ℕ) → after_lines library before (Failed a b c) ls n ≡ Failed a b c
+stays library before [] a b c n = refl
+stays library before (l ∷ ls) a b c n = stays library before ls a b c (n + 1)
 
-not_open : (ls : List CertLine) (a b c n : ℕ) → after_lines (Failed a b c) ls n ≡ Open [] → ⊥
-not_open ls a b c n e = let k : Failed a b c ≡ Open [] = sym (stays ls a b c n) ∙ e in absurd (cc)
+not_open : (library : Library) (before : ℕ) (ls : List CertLine) (a b c n : ℕ) → after_lines library before (Failed a b c) ls n ≡ Open [] → ⊥
+not_open library before ls a b c n e = let k : Failed a b c ≡ Open [] = sym (stays library before ls a b c n) ∙ e in absurd (cc)
+
+parted : {X : Type 0} (P : X → Type 0) (l m : List X) → Each P (l ++ m) → Each P l × Each P m
+parted P [] m h = (tt, h)
+parted P (x ∷ xs) m h = let r = parted P xs m h.1 in ((h.0, r.0), r.1)
 
 none_left : (gs : List Sequent) → Open gs ≡ Open [] → gs ≡ []
 none_left gs e = cc
 
-module _ (library : List Definition) where
+module _ (library : Library) (before : ℕ) where
   within_sound : (b : Bool) (gs : List Sequent) (ls : List CertLine) (n m : ℕ) →
-      ((gs : List Sequent) → after_lines (Open gs) ls m ≡ Open [] → Each (Valid library) gs) →
-      after_lines (capped b gs n) ls m ≡ Open [] → Each (Valid library) gs
-  within_sound true gs ls n m ih e = absurd (not_open ls n 0 7 m e)
+      ((gs : List Sequent) → after_lines library before (Open gs) ls m ≡ Open [] → Each (Valid (definitions_of library)) gs) →
+      after_lines library before (capped b gs n) ls m ≡ Open [] → Each (Valid (definitions_of library)) gs
+  within_sound true gs ls n m ih e = absurd (not_open library before ls n 0 7 m e)
   within_sound false gs ls n m ih e = ih gs e
 
   replaced_sound : (x : Effect) (rest : List Sequent) (ls : List CertLine) (n m : ℕ) →
-      ((gs : List Sequent) → after_lines (Open gs) ls m ≡ Open [] → Each (Valid library) gs) →
-      after_lines (replaced x rest n) ls m ≡ Open [] → AllValid library x × Each (Valid library) rest
-  replaced_sound (Fails sub cause) rest ls n m ih e = absurd (not_open ls n sub cause m e)
-  replaced_sound Closes rest ls n m ih e = (tt, ih rest e)
-  replaced_sound (One p) rest ls n m ih e = let r = ih (p ∷ rest) e in (r.0, r.1)
-  replaced_sound (Two p q) rest ls n m ih e = let r = within_sound _ (p ∷ q ∷ rest) ls n m ih e in ((r.0, r.1.0), r.1.1)
+      ((gs : List Sequent) → after_lines library before (Open gs) ls m ≡ Open [] → Each (Valid (definitions_of library)) gs) →
+      after_lines library before (replaced x rest n) ls m ≡ Open [] → AllValid (definitions_of library) x × Each (Valid (definitions_of library)) rest
+  replaced_sound (Fails sub cause) rest ls n m ih e = absurd (not_open library before ls n sub cause m e)
+  replaced_sound (Premises ps) rest ls n m ih e = parted (Valid (definitions_of library)) ps rest (within_sound _ (ps ++ rest) ls n m ih e)
 
-  lines_sound : (ls : List CertLine) (gs : List Sequent) (n : ℕ) → after_lines (Open gs) ls n ≡ Open [] → Each (Valid library) gs
-  lines_sound [] gs n e = subst (Each (Valid library)) (sym (none_left gs e)) tt
+  lines_sound : (ls : List CertLine) (gs : List Sequent) (n : ℕ) → after_lines library before (Open gs) ls n ≡ Open [] → Each (Valid (definitions_of library)) gs
+  lines_sound [] gs n e = subst (Each (Valid (definitions_of library))) (sym (none_left gs e)) tt
   lines_sound (l ∷ ls) [] n e = tt
   lines_sound (l ∷ ls) (q ∷ rest) n e =
-      let r = replaced_sound (after_line q l) rest ls n (n + 1) (λ gs. lines_sound ls gs (n + 1)) e in
-      (line_sound library q l r.0, r.1)
+      let r = replaced_sound (after_line library before q l) rest ls n (n + 1) (λ gs. lines_sound ls gs (n + 1)) e in
+      (line_sound library before q l r.0, r.1)
 
-  pub follows_valid : (q : Sequent) (cert : Cert) → Follows q cert → Valid library q
+  pub follows_valid : (q : Sequent) (cert : Cert) → Follows library before q cert → Valid (definitions_of library) q
   follows_valid q cert e = (lines_sound (take (length cert.lines) cert.lines) (q ∷ []) 1 e).0
 
 -- a certificate that is told good follows
@@ -56,43 +59,44 @@ good_follows (Open []) n e = refl
 good_follows (Open (q ∷ rest)) n e = absurd (cc)
 good_follows (Failed a b c) n e = absurd (cc)
 
-pub good_valid : (q : Sequent) (cert : Cert) (v : Verdict) → v ≡ verdict q cert → v ≡ Good → (library : List Definition) → Valid library q
-good_valid q cert v is e library = follows_valid library q cert (good_follows (after q cert (length cert.lines)) (length cert.lines) (sym is ∙ e))
+module _ (library : Library) (before : ℕ) where
+  pub good_valid : (q : Sequent) (cert : Cert) (v : Verdict) → v ≡ verdict library before q cert → v ≡ Good → Valid (definitions_of library) q
+  good_valid q cert v is e =
+      follows_valid library before q cert (good_follows (after library before q cert (length cert.lines)) (length cert.lines) (sym is ∙ e))
 
-whole : (q : Sequent) (cert : Cert) → after q cert (length cert.lines) ≡ after_lines (Open (q ∷ [])) cert.lines 1
-whole q cert = ap (λ ls. after_lines (Open (q ∷ [])) ls 1) (take-length cert.lines)
+  whole : (q : Sequent) (cert : Cert) → after library before q cert (length cert.lines) ≡ after_lines library before (Open (q ∷ [])) cert.lines 1
+  whole q cert = ap (λ ls. after_lines library before (Open (q ∷ [])) ls 1) (take-length cert.lines)
 
-pub verdict_fails : (q : Sequent) (cert : Cert) (a b c : ℕ) → after_lines (Open (q ∷ [])) cert.lines 1 ≡ Failed a b c → Bad a b c ≡ verdict q cert
-verdict_fails q cert a b c e = sym (ap (λ p. told p (length cert.lines)) (whole q cert ∙ e))
+  pub verdict_fails : (q : Sequent) (cert : Cert) (a b c : ℕ) → after_lines library before (Open (q ∷ [])) cert.lines 1 ≡ Failed a b c → Bad a b c ≡ verdict library before q cert
+  verdict_fails q cert a b c e = sym (ap (λ p. told p (length cert.lines)) (whole q cert ∙ e))
 
-pub verdict_good : (q : Sequent) (cert : Cert) → after_lines (Open (q ∷ [])) cert.lines 1 ≡ Open [] → Good ≡ verdict q cert
-verdict_good q cert e = sym (ap (λ p. told p (length cert.lines)) (whole q cert ∙ e))
+  pub verdict_good : (q : Sequent) (cert : Cert) → after_lines library before (Open (q ∷ [])) cert.lines 1 ≡ Open [] → Good ≡ verdict library before q cert
+  verdict_good q cert e = sym (ap (λ p. told p (length cert.lines)) (whole q cert ∙ e))
 
-pub checked_fails : (q : Sequent) (cert : Cert) (a b c : ℕ) → after_lines (Open (q ∷ [])) cert.lines 1 ≡ Failed a b c → a ≡ checked q cert
-checked_fails q cert a b c e = sym (ap (λ p. counted p (length cert.lines)) (whole q cert ∙ e))
+  pub checked_fails : (q : Sequent) (cert : Cert) (a b c : ℕ) → after_lines library before (Open (q ∷ [])) cert.lines 1 ≡ Failed a b c → a ≡ checked library before q cert
+  checked_fails q cert a b c e = sym (ap (λ p. counted p (length cert.lines)) (whole q cert ∙ e))
 
-next : (gs : List Sequent) (lines : List CertLine) (i n : ℕ) (d : CertLine) (p : Progress) → after_lines (Open gs) (drop i lines) n ≡ p → i < length lines →
-    after_lines (step (Open gs) (get_or lines i d) n) (drop (i + 1) lines) (n + 1) ≡ p
-next gs lines i n d p e h = rw add-one ((ap (λ ls. after_lines (Open gs) ls n) (sym (drop-cons lines i d h))) ∙ e)
+  next : (gs : List Sequent) (lines : List CertLine) (i n : ℕ) (d : CertLine) (p : Progress) → after_lines library before (Open gs) (drop i lines) n ≡ p → i < length lines →
+      after_lines library before (step library before (Open gs) (get_or lines i d) n) (drop (i + 1) lines) (n + 1) ≡ p
+  next gs lines i n d p e h = rw add-one ((ap (λ ls. after_lines library before (Open gs) ls n) (sym (drop-cons lines i d h))) ∙ e)
 
-pub fails_at : (gs : List Sequent) (lines : List CertLine) (i n a b c : ℕ) (d : CertLine) (p : Progress) → after_lines (Open gs) (drop i lines) n ≡ p → i < length lines →
-    step (Open gs) (get_or lines i d) n ≡ Failed a b c → p ≡ Failed a b c
-fails_at gs lines i n a b c d p e h s =
-    sym (next gs lines i n d p e h) ∙ ap (λ z. after_lines z (drop (i + 1) lines) (n + 1)) s ∙ stays (drop (i + 1) lines) a b c (n + 1)
+  pub fails_at : (gs : List Sequent) (lines : List CertLine) (i n a b c : ℕ) (d : CertLine) (p : Progress) → after_lines library before (Open gs) (drop i lines) n ≡ p → i < length lines →
+      step library before (Open gs) (get_or lines i d) n ≡ Failed a b c → p ≡ Failed a b c
+  fails_at gs lines i n a b c d p e h s =
+      sym (next gs lines i n d p e h)
+      ∙ ap (λ z. after_lines library before z (drop (i + 1) lines) (n + 1)) s
+      ∙ stays library before (drop (i + 1) lines) a b c (n + 1)
 
-pub ended : (gs : List Sequent) (lines : List CertLine) (i n : ℕ) (p : Progress) → after_lines (Open (reverse gs)) (drop i lines) n ≡ p → length lines ≤ i → gs ≡ [] → p ≡ Open []
-ended gs lines i n p e h g = sym e ∙ ap (λ ls. after_lines (Open (reverse gs)) ls n) (drop_all i lines h) ∙ ap (λ x. Open (reverse x)) g
+  pub ended : (gs : List Sequent) (lines : List CertLine) (i n : ℕ) (p : Progress) → after_lines library before (Open (reverse gs)) (drop i lines) n ≡ p → length lines ≤ i → gs ≡ [] → p ≡ Open []
+  ended gs lines i n p e h g = sym e ∙ ap (λ ls. after_lines library before (Open (reverse gs)) ls n) (drop_all i lines h) ∙ ap (λ x. Open (reverse x)) g
 
-pub goes_on : (gs more : List Sequent) (lines : List CertLine) (i n : ℕ) (d : CertLine) (p : Progress) → after_lines (Open gs) (drop i lines) n ≡ p → i < length lines →
-    step (Open gs) (get_or lines i d) n ≡ Open more → after_lines (Open more) (drop (i + 1) lines) (n + 1) ≡ p
-goes_on gs more lines i n d p e h s = ap (λ z. after_lines z (drop (i + 1) lines) (n + 1)) (sym s) ∙ next gs lines i n d p e h
+  pub goes_on : (gs more : List Sequent) (lines : List CertLine) (i n : ℕ) (d : CertLine) (p : Progress) → after_lines library before (Open gs) (drop i lines) n ≡ p → i < length lines →
+      step library before (Open gs) (get_or lines i d) n ≡ Open more → after_lines library before (Open more) (drop (i + 1) lines) (n + 1) ≡ p
+  goes_on gs more lines i n d p e h s = ap (λ z. after_lines library before z (drop (i + 1) lines) (n + 1)) (sym s) ∙ next gs lines i n d p e h
 
 -- the last goal of the list is the top of the stack
 pub last_first : (gs : List Sequent) (q : Sequent) → reverse (gs ++ q ∷ []) ≡ q ∷ reverse gs
 last_first gs q = reverse-append gs (q ∷ [])
-
-pub on_top : (gs rest : List Sequent) (q : Sequent) (l : CertLine) (n : ℕ) → gs ≡ rest ++ q ∷ [] → step (Open (reverse gs)) l n ≡ replaced (after_line q l) (reverse rest) n
-on_top gs rest q l n e = ap (λ g. step (Open g) l n) (ap reverse e ∙ last_first rest q)
 
 pub two_on_top : (gs rest : List Sequent) (p q : Sequent) → gs ≡ (rest ++ q ∷ []) ++ p ∷ [] → reverse gs ≡ p ∷ q ∷ reverse rest
 two_on_top gs rest p q e = ap reverse e ∙ last_first (rest ++ q ∷ []) p ∙ ap (λ r. p ∷ r) (last_first rest q)

@@ -1,9 +1,9 @@
 -- The goals after the lines of a certificate, and what they say of it.
-use Rattle.std.specs.Prelude.{◌≡◌, ℕ, ◌+◌, ltb, Bool, true, false, List, [], ◌∷◌, length, take, Option, Some, None}
+use Rattle.std.specs.Prelude.{◌≡◌, ℕ, ◌+◌, ltb, Bool, true, false, List, [], ◌∷◌, ◌++◌, length, take, Option, Some, None}
 use Rattle.rw_terms.specs.declared.sequent.Sequent.{Sequent}
-use Rattle.rw_sequents.specs.declared.effect.Effect.{Effect}
-use Rattle.rw_sequents.specs.declared.effect.Effect.TheVariants.{Fails, Closes, One, Two}
-use Rattle.rw_sequents.specs.declared.effect.Fault.{Fault}
+use Rattle.rw_goals.specs.declared.library.Library.{Library}
+use Rattle.rw_goals.specs.Premises.{Effect, Fails, Premises}
+use Rattle.rw_sequents.specs.declared.check.Fault.{Fault}
 use Rattle.rw_sequents.specs.declared.line.CertLine.{CertLine}
 use Rattle.rw_sequents.specs.declared.line.Cert.{Cert}
 use Rattle.rw_sequents.specs.declared.line.Verdict.{Verdict}
@@ -20,29 +20,31 @@ abbrev pub capped : Bool → List Sequent → ℕ → Progress
 capped true goals n = Failed n 0 7
 capped false goals n = Open goals
 
+-- the premises in place of the top goal
 abbrev pub replaced : Effect → List Sequent → ℕ → Progress
 replaced (Fails sub cause) rest n = Failed n sub cause
-replaced Closes rest n = Open rest
-replaced (One p) rest n = Open (p ∷ rest)
-replaced (Two p r) rest n = capped (ltb 64 (length rest + 2)) (p ∷ r ∷ rest) n
+replaced (Premises ps) rest n = capped (ltb 64 (length (ps ++ rest))) (ps ++ rest) n
 
--- the line of number n
-abbrev pub step : Progress → CertLine → ℕ → Progress
-step (Failed line sub cause) l n = Failed line sub cause
-step (Open []) l n = Failed n 0 1
-step (Open (q ∷ rest)) l n = replaced (after_line q l) rest n
+-- by a library, of which lemmas may be cited below a table place
+module _ (library : Library) (before : ℕ) where
+  -- the line of number n
+  abbrev pub step : Progress → CertLine → ℕ → Progress
+  step (Failed line sub cause) l n = Failed line sub cause
+  step (Open []) l n = Failed n 0 1
+  step (Open (q ∷ rest)) l n = replaced (after_line library before q l) rest n
 
-abbrev pub after_lines : Progress → List CertLine → ℕ → Progress
-after_lines p [] n = p
-after_lines p (l ∷ ls) n = after_lines (step p l n) ls (n + 1)
+  -- after lines of which the first has number n
+  abbrev pub after_lines : Progress → List CertLine → ℕ → Progress
+  after_lines p [] n = p
+  after_lines p (l ∷ ls) n = after_lines (step p l n) ls (n + 1)
 
--- after the first n lines of a certificate of the goal
-abbrev pub after : Sequent → Cert → ℕ → Progress
-after q cert n = after_lines (Open (q ∷ [])) (take n cert.lines) 1
+  -- after the first n lines of a certificate of the goal
+  abbrev pub after : Sequent → Cert → ℕ → Progress
+  after q cert n = after_lines (Open (q ∷ [])) (take n cert.lines) 1
 
--- no line fails, and no goal is left
-abbrev pub Follows : Sequent → Cert → Type 0
-Follows q cert = after q cert (length cert.lines) ≡ Open []
+  -- no line fails, and no goal is left
+  abbrev pub Follows : Sequent → Cert → Type 0
+  Follows q cert = after q cert (length cert.lines) ≡ Open []
 
 -- what a line's fault, or none, makes of the goals
 abbrev pub progress : Option Fault → List Sequent → ℕ → Progress
@@ -55,13 +57,15 @@ told (Open []) lines = Good
 told (Open (q ∷ rest)) lines = Bad (lines + 1) 0 2
 told (Failed line sub cause) lines = Bad line sub cause
 
-abbrev pub verdict : Sequent → Cert → Verdict
-verdict q cert = told (after q cert (length cert.lines)) (length cert.lines)
-
 -- the lines that are checked, the failing one among them
 abbrev pub counted : Progress → ℕ → ℕ
 counted (Open goals) lines = lines
 counted (Failed line sub cause) lines = line
 
-abbrev pub checked : Sequent → Cert → ℕ
-checked q cert = counted (after q cert (length cert.lines)) (length cert.lines)
+-- what is said of a certificate of the goal by a library
+abbrev pub verdict : Library → ℕ → Sequent → Cert → Verdict
+verdict library before q cert = told (after library before q cert (length cert.lines)) (length cert.lines)
+
+-- how many lines of a certificate are checked
+abbrev pub checked : Library → ℕ → Sequent → Cert → ℕ
+checked library before q cert = counted (after library before q cert (length cert.lines)) (length cert.lines)

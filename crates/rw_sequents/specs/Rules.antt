@@ -1,22 +1,30 @@
--- What a line of a certificate does to the goal on top.
-use Rattle.std.specs.Prelude.{Bool, true, false, List}
-use Rattle.std.specs.List.{list_any}
-use Rattle.rw_terms.specs.declared.term.Formula.{Formula}
+-- What a line of a certificate makes of the goal on top.
+use Rattle.std.specs.Prelude.{ℕ}
 use Rattle.rw_terms.specs.declared.sequent.Sequent.{Sequent}
-use Rattle.rw_sequents.specs.declared.effect.Effect.{Effect}
-use Rattle.rw_sequents.specs.declared.effect.Effect.TheVariants.{Fails, Closes}
+use Rattle.rw_goals.specs.declared.closing.Closing.TheVariants as closing
+use Rattle.rw_goals.specs.declared.connectives.Connective.TheVariants as connective
+use Rattle.rw_goals.specs.declared.library.Library.{Library}
+use Rattle.rw_goals.specs.Premises.{Effect, at_left, at_right}
+use Rattle.rw_goals.specs.Closing.{closed_by}
+use Rattle.rw_goals.specs.Connectives.{left_rule, right_rule}
+use Rattle.rw_goals.specs.Cut.{cut, leave_out}
 use Rattle.rw_sequents.specs.declared.line.CertLine.{CertLine}
 use Rattle.rw_sequents.specs.declared.line.CertLine.TheVariants as line
-use Rattle.rw_sequents.specs.Same.{same_formula}
 
--- some left formula is the same as some right one
-abbrev pub have_common : List Formula → List Formula → Bool
-have_common left right = list_any (λ f. list_any (same_formula f) right) left
-
--- the goal closes, or the line is not of its rule's form
-abbrev pub closes_if : Bool → Effect
-closes_if true = Closes
-closes_if false = Fails 0 4
-
-abbrev pub after_line : Sequent → CertLine → Effect
-after_line q line.Ax = closes_if (have_common q.left q.right)
+-- by a library, of which lemmas may be cited below a table place; no line cites one yet
+abbrev pub after_line : Library → ℕ → Sequent → CertLine → Effect
+after_line library before q line.Ax = closed_by closing.Common q
+after_line library before q line.FalseL = closed_by closing.False q
+after_line library before q line.TrueR = closed_by closing.True q
+after_line library before q line.Refl = closed_by closing.Reflexive q
+after_line library before q (line.Cut f) = cut library f q
+after_line library before q (line.DropL i) = at_left q i leave_out
+after_line library before q (line.DropR j) = at_right q j leave_out
+after_line library before q (line.NotL i) = at_left q i (left_rule connective.Not)
+after_line library before q (line.NotR j) = at_right q j (right_rule connective.Not)
+after_line library before q (line.AndL i) = at_left q i (left_rule connective.And)
+after_line library before q (line.AndR j) = at_right q j (right_rule connective.And)
+after_line library before q (line.OrL i) = at_left q i (left_rule connective.Or)
+after_line library before q (line.OrR j) = at_right q j (right_rule connective.Or)
+after_line library before q (line.ImpL i) = at_left q i (left_rule connective.Imp)
+after_line library before q (line.ImpR j) = at_right q j (right_rule connective.Imp)

@@ -1,14 +1,15 @@
 //! Checking a certificate.
 
-ghost use Rattle.std.specs.Prelude.{◌≡◌, ℕ, ◌+◌, ◌<◌, List, length, reverse, IfOk};
-ghost use Rattle.rw_terms.specs.Truth.{Definition};
+ghost use Rattle.std.specs.Prelude.{◌≡◌, ℕ, ◌+◌, ◌<◌, length, reverse, ltb, IfOk};
 ghost use Rattle.rw_terms.specs.Validity.{Valid};
-ghost use Rattle.rw_sequents.specs.After.{Open, step, progress, verdict, checked};
+ghost use Rattle.rw_goals.specs.Library.{definitions_of};
+ghost use Rattle.rw_sequents.specs.After.{Open, step, progress, capped, verdict, checked};
 
-use crate::effect::{Effect, Fault};
+use crate::after::apply_line;
 use crate::error::CheckError;
 use crate::line::{Cert, CertLine, Verdict};
-use crate::rules::after_line;
+use rw_goals::library::Library;
+use rw_goals::outcome::{Outcome, TOO_LARGE};
 use rw_items::Items;
 use rw_steps::Steps;
 use rw_terms::sequent::Sequent;
@@ -21,27 +22,35 @@ const NO_GOAL: u8 = 1;
 
 const UNCLOSED: u8 = 2;
 
-const TOO_LARGE: u8 = 7;
+/// Why a line fails: the arithmetic line, or 0, and the cause.
+#[derive(Clone, Copy, Debug)]
+pub struct Fault {
+    pub sub: u32,
+    pub cause: u8,
+}
 
-/// Whether the certificate closes the goal, and else the first line that fails with its cause. One step is
-/// counted for each line that is checked, the failing one among them.
+/// Whether the certificate closes the goal, and else the first line that fails with its cause. One step is counted for each line
+/// that is checked, the failing one among them. Lemmas of the library may be cited below the table place `before`, counted from 0;
+/// no line that is built cites one.
 pub fn check<L: Ledger>(
     alloc: Global,
+    library: &Library,
+    before: u32,
     goal: &Sequent,
     cert: &Cert,
     steps: &mut Steps<L>,
 ) -> Result<Verdict, CheckError>
     requires { length cert.now.lines < 4294967295 }
-    ensures verdict { IfOk result (λ v. v ≡ verdict goal.now cert.now) }
-    ensures valid { IfOk result (λ v. v ≡ Verdict.Good → (library : List Definition) → Valid library goal.now) }
-    ensures cost { IfOk result (λ _. steps.new ≡ steps.old + checked goal.now cert.now) }
+    ensures verdict { IfOk result (λ v. v ≡ verdict library.now before goal.now cert.now) }
+    ensures valid { IfOk result (λ v. v ≡ Verdict.Good → Valid (definitions_of library.now) goal.now) }
+    ensures cost { IfOk result (λ _. steps.new ≡ steps.old + checked library.now before goal.now cert.now) }
 {
     let mut goals = Items::new(alloc);
     goals.push(goal.copy(alloc)?)?;
     let mut line = 1;
     for rule in cert.lines.as_slice() {
         steps.tick();
-        if let Some(fault) = advance(&mut goals, rule)? {
+        if let Some(fault) = advance(alloc, library, before, &mut goals, rule)? {
             return Ok(Verdict::Bad {
                 line,
                 sub: fault.sub,
@@ -62,33 +71,45 @@ pub fn check<L: Ledger>(
 }
 
 // Applies a line to the top goal, which is the last of the list.
-fn advance(goals: &mut Items<Sequent>, rule: &CertLine) -> Result<Option<Fault>, AllocError>
-    ensures { IfOk result (λ fault. (n : ℕ) → step (Open (reverse goals.old)) rule.now n ≡ progress fault (reverse goals.new) n) }
+fn advance(
+    alloc: Global,
+    library: &Library,
+    before: u32,
+    goals: &mut Items<Sequent>,
+    rule: &CertLine,
+) -> Result<Option<Fault>, AllocError>
+    ensures { IfOk result (λ fault. (n : ℕ) → step library.now before (Open (reverse goals.old)) rule.now n ≡ progress fault (reverse goals.new) n) }
 {
-    let top = match goals.pop() {
+    let mut top = match goals.pop() {
         Some(top) => top,
         None => return Ok(Some(Fault {
             sub: 0,
             cause: NO_GOAL,
         })),
     };
-    match after_line(&top, rule) {
-        Effect::Fails(sub, cause) => Ok(Some(Fault { sub, cause })),
-        Effect::Closes => Ok(None),
-        Effect::One(premise) => {
-            goals.push(premise)?;
-            Ok(None)
+    match apply_line(alloc, library, before, &mut top, rule)? {
+        Outcome::Fails(sub, cause) => Ok(Some(Fault { sub, cause })),
+        Outcome::Closes => Ok(too_many(goals)),
+        Outcome::One => {
+            goals.push(top)?;
+            Ok(too_many(goals))
         }
-        Effect::Two(first, second) => {
+        Outcome::Two(second) => {
             goals.push(second)?;
-            goals.push(first)?;
-            if goals.len() > MOST_GOALS {
-                return Ok(Some(Fault {
-                    sub: 0,
-                    cause: TOO_LARGE,
-                }));
-            }
-            Ok(None)
+            goals.push(top)?;
+            Ok(too_many(goals))
         }
     }
+}
+
+fn too_many(goals: &Items<Sequent>) -> Option<Fault>
+    ensures { (n : ℕ) → capped (ltb 64 (length (reverse goals.now))) (reverse goals.now) n ≡ progress result (reverse goals.now) n }
+{
+    if goals.len() > MOST_GOALS {
+        return Some(Fault {
+            sub: 0,
+            cause: TOO_LARGE,
+        });
+    }
+    None
 }

@@ -1,8 +1,11 @@
 //! Certificates that show a sequent valid, and their checker.
 #![tactic(auto)]
 
+pub mod after;
 pub mod check;
-pub mod effect;
 pub mod error;
 pub mod line;
-pub mod rules;
+#[cfg(test)]
+mod tests;
+
+pub use rw_goals::library::{Definition, Item, Lemma, Library};

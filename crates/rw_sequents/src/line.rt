@@ -3,22 +3,56 @@
 ghost use Rattle.std.specs.Prelude.{◌≡◌, IfOk};
 
 use rw_items::Items;
+use rw_terms::term::Formula;
 use std::alloc::{AllocError, Global};
 
-/// A line of a certificate: a rule with its arguments.
-#[derive(Debug, Drop)]
+/// A line of a certificate: a rule with its arguments, in their order. Formulas are numbered from 1. A variant comes with its rule:
+/// those of quantifiers, equality, arrays, division, definitions, lemmas and arithmetic are not built yet.
+#[derive(Drop)]
 pub enum CertLine {
     /// Some left formula is the same as some right one.
     Ax,
+    /// `false` is on the left.
+    FalseL,
+    /// `true` is on the right.
+    TrueR,
+    /// Some equation of a term with itself is on the right.
+    Refl,
+    /// The formula is to be shown, and then used.
+    Cut(Formula),
+    DropL(u32),
+    DropR(u32),
+    NotL(u32),
+    NotR(u32),
+    AndL(u32),
+    AndR(u32),
+    OrL(u32),
+    OrR(u32),
+    ImpL(u32),
+    ImpR(u32),
 }
 
 impl CertLine {
     /// The same line again.
-    pub fn copy(&self, _alloc: Global) -> Result<CertLine, AllocError>
+    pub fn copy(&self, alloc: Global) -> Result<CertLine, AllocError>
         ensures { IfOk result (λ l. l ≡ self.now) }
     {
         match self {
             CertLine::Ax => Ok(CertLine::Ax),
+            CertLine::FalseL => Ok(CertLine::FalseL),
+            CertLine::TrueR => Ok(CertLine::TrueR),
+            CertLine::Refl => Ok(CertLine::Refl),
+            CertLine::Cut(formula) => Ok(CertLine::Cut(formula.copy(alloc)?)),
+            CertLine::DropL(i) => Ok(CertLine::DropL(*i)),
+            CertLine::DropR(j) => Ok(CertLine::DropR(*j)),
+            CertLine::NotL(i) => Ok(CertLine::NotL(*i)),
+            CertLine::NotR(j) => Ok(CertLine::NotR(*j)),
+            CertLine::AndL(i) => Ok(CertLine::AndL(*i)),
+            CertLine::AndR(j) => Ok(CertLine::AndR(*j)),
+            CertLine::OrL(i) => Ok(CertLine::OrL(*i)),
+            CertLine::OrR(j) => Ok(CertLine::OrR(*j)),
+            CertLine::ImpL(i) => Ok(CertLine::ImpL(*i)),
+            CertLine::ImpR(j) => Ok(CertLine::ImpR(*j)),
         }
     }
 }

@@ -163,11 +163,12 @@ inner prefixes.Minus env = env
 inner prefixes.Not env = env
 inner (prefixes.Bind q b s) env = b ∷ env
 
--- A number is at most 2 ^ 127 - 1, and a binder of the form `_1` is named only in its scope.
+-- A number is at most 2 ^ 127 - 1, an initial variable begins with a lower-case letter, and a binder of the form `_1` is named only
+-- in its scope.
 abbrev pub is_known : List Binder → Leaf → Bool
 is_known env (number n) = leb n 170141183460469231731687303715884105727
 is_known env (word w) = true
-is_known env (initial w) = true
+is_known env (initial w) = not (is_upper w)
 is_known env (place n) = is_some (find (binders.Numbered n) env)
 is_known env (truth b) = true
 

@@ -13,6 +13,7 @@ use crate::finding::find;
 use crate::frame::{Binder, Frame, Part, Partial, Prefix};
 use crate::frames::Frames;
 use crate::state::State;
+use crate::table::is_upper;
 use crate::token::{Infix, Quantifier, Token};
 use rw_terms::name::Name;
 use rw_terms::term::{Formula, Term};
@@ -85,6 +86,9 @@ fn initial(
 ) -> Result<Option<State>, AllocError>
     ensures { IfOk result (λ o. o ≡ begin_shut wanted stack (tokens.Initial name)) }
 {
+    if is_upper(&name) {
+        return Ok(None);
+    }
     one_term(alloc, wanted, Term::Init(name), stack)
 }
 

@@ -9,8 +9,11 @@ use Rattle.rw_tree.specs.declared.refusal.EditRefusal.{EditRefusal}
 use Rattle.rw_tree.specs.declared.refusal.EditRefusal.TheVariants as refusal
 use Rattle.rw_tree.specs.declared.refusal.Which.TheVariants as which
 use Rattle.rw_tree.specs.declared.parts.Parts.{Parts}
+use Rattle.std.specs.Prelude.{not, nat_le}
+use Rattle.std.specs.List.{list_all}
+use Rattle.rw_faults.specs.Limits.{is_light, is_shallow}
 use Rattle.rw_tree.specs.Edits.{cert_at, cert_set, cert_dropped, behind, is_node, obligations_of}
-use Rattle.rw_tree.specs.Refusals.{has_obligation, too_long, IsGood}
+use Rattle.rw_tree.specs.Refusals.{has_obligation, passes, cert_limit, IsGood}
 use Rattle.rw_tree.specs.Anew.{main_context, judged, root_judged, root_mark, root_place}
 use Rattle.rw_tree.specs.Parts.{Makes, HasFewLines, judged_in, mark_in}
 
@@ -19,11 +22,17 @@ not_taken : (b : Bool) (o : Option EditRefusal) (r : EditRefusal) → (if b then
 not_taken true o r e = e
 not_taken false o r e = absurd (cc)
 
-is_short : (c : Cert) → too_long c ≡ None → length c.lines ≤ 4096
-is_short c e = elim (leb_tells (length c.lines) 4096) [
+-- what passes no limit has few lines
+short_told : (a b : Bool) (c : Cert) → (if a then Some (refusal.Limit which.Weight 1024) else if b then Some (refusal.Limit which.Depth 64) else if nat_le (length c.lines) 4096 then None else Some (refusal.Limit which.Lines 4096)) ≡ None → length c.lines ≤ 4096
+short_told true b c e = absurd (cc)
+short_told false true c e = absurd (cc)
+short_told false false c e = elim (leb_tells (length c.lines) 4096) [
   | inl h ↦ h.1
   | inr h ↦ absurd (let f : Some (refusal.Limit which.Lines 4096) ≡ None = rw h.0 at e in cc)
 ]
+
+is_short : (c : Cert) → cert_limit c ≡ None → length c.lines ≤ 4096
+is_short c e = short_told (not (list_all (passes is_light) c.lines)) (not (list_all (passes is_shallow) c.lines)) c e
 
 kept : (b : Bool) (old : Option Cert) (c : Cert) → unwrap_or (if b then Some None else None) old ≡ Some c → old ≡ Some c
 kept true old c e = absurd (cc)
@@ -45,8 +54,8 @@ few_lines (edit.Var x ∷ l) good k c e = few_lines l good.0 k c e
 few_lines (edit.Root w ∷ l) good k c e = few_lines l good.0 k c e
 few_lines (edit.Step q s ∷ l) good k c e = few_lines l good.0 k c (step_keeps s q.path.kids k (cert_at l [] k) c e)
 few_lines (edit.Prove q j d ∷ l) good k c e =
-    let asked = not_taken (is_node l q.path.kids) (if has_obligation l q.path.kids j then too_long d else Some (refusal.NoObligation j)) (refusal.NoNode q) good.1 in
-    let short = is_short d (not_taken (has_obligation l q.path.kids j) (too_long d) (refusal.NoObligation j) asked) in
+    let asked = not_taken (is_node l q.path.kids) (if has_obligation l q.path.kids j then cert_limit d else Some (refusal.NoObligation j)) (refusal.NoNode q) good.1 in
+    let short = is_short d (not_taken (has_obligation l q.path.kids j) (cert_limit d) (refusal.NoObligation j) asked) in
     set_or_kept (nat_eq j k) d q.path.kids (cert_at l [] k) c short (few_lines l good.0 k c) e
 
 -- each certificate of a project that good edits make has few lines

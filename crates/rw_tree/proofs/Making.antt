@@ -13,7 +13,7 @@ use Rattle.rw_tree.specs.declared.refusal.EditRefusal.{EditRefusal}
 use Rattle.rw_tree.specs.declared.refusal.EditRefusal.TheVariants as refusal
 use Rattle.rw_tree.specs.declared.parts.Parts.{Parts}
 use Rattle.rw_tree.specs.Edits.{step_at, step_set, cert_at, cert_dropped, cert_set, behind, obligations_of, obligations_in, has_kid, is_node}
-use Rattle.rw_tree.specs.Refusals.{or_refusal, var_refusal, root_refusal, too_long, refusal_of}
+use Rattle.rw_tree.specs.Refusals.{or_refusal, var_refusal, root_refusal, cert_limit, refusal_of}
 use Rattle.rw_tree.specs.Parts.{Makes, numbered, resized, put_numbered, applied_to, no_node_at, no_node, no_obligation, refusal_in}
 use Rattle.rw_tree.proofs.Sizes.{held_sized, length_sized, held_set}
 
@@ -46,7 +46,7 @@ refusal_same l parts m (edit.Var p) = ap (λ g. var_refusal g p) m.globals
 refusal_same l parts m (edit.Root w) = ap (λ g. root_refusal g w) m.globals
 refusal_same l parts m (edit.Step q s) = no_more (no_node q) ∙ node_told l q q.path.kids None None (λ e. refl)
 refusal_same l parts m (edit.Prove q k c) = node_told l q q.path.kids (no_obligation parts k c) _
-    (λ e. ap (λ n. if nat_le 1 k && nat_le k n then too_long c else Some (refusal.NoObligation k)) (m.shaped ∙ ap obligations_in (m.step ∙ ap (step_at l) (sym e))))
+    (λ e. ap (λ n. if nat_le 1 k && nat_le k n then cert_limit c else Some (refusal.NoObligation k)) (m.shaped ∙ ap obligations_in (m.step ∙ ap (step_at l) (sym e))))
 
 -- an edit at a place is refused where the place is not the root's
 root_told : (q : Place) (p : List ℕ) (ask : Option EditRefusal) → or_refusal (no_node_at p q) ask ≡ None → p ≡ []

@@ -8,6 +8,7 @@ use Rattle.rw_programs.specs.declared.applied.Context.{Context}
 use Rattle.rw_sequents.specs.declared.line.Cert.{Cert}
 use Rattle.rw_sequents.specs.declared.line.Verdict.{Verdict}
 use Rattle.rw_sequents.specs.declared.line.Verdict.TheVariants as verdicts
+use Rattle.rw_goals.specs.declared.library.Library.{Library}
 use Rattle.rw_sequents.specs.After.{verdict}
 use Rattle.rw_laws.specs.Laws.{Law, fits, misfit, law_of}
 use Rattle.rw_tree.specs.declared.edit.Edit.{Edit}
@@ -38,10 +39,14 @@ abbrev pub state_by : Verdict → NeedState
 state_by verdicts.Good = need.Good
 state_by (verdicts.Bad line sub cause) = need.Bad line sub cause
 
+-- no definitions and lemmas are there yet
+abbrev pub no_library : Library
+no_library = record { entries = [] }
+
 -- the state of an obligation: good by its certificate, bad by it, or without one
 abbrev pub state_of : Sequent → Option Cert → NeedState
 state_of q None = need.Missing
-state_of q (Some cert) = state_by (verdict q cert)
+state_of q (Some cert) = state_by (verdict no_library 0 q cert)
 
 -- the obligations from number k on with their states, by the certificate of each number
 abbrev pub needs_from : ℕ → List Sequent → (ℕ → Option Cert) → List Need

@@ -14,7 +14,7 @@ use Rattle.rw_tree.specs.Edits.{globals_of, root_of, step_at, cert_at, obligatio
 use Rattle.rw_tree.specs.declared.status.NodeMark.{NodeMark}
 use Rattle.rw_tree.specs.declared.status.Judgement.{Judgement}
 use Rattle.rw_tree.specs.Anew.{main_context, judged, root_place}
-use Rattle.rw_tree.specs.Refusals.{or_refusal, var_refusal, root_refusal, too_long}
+use Rattle.rw_tree.specs.Refusals.{or_refusal, var_refusal, root_refusal, cert_limit}
 
 -- the certificate of the obligation of this number, from 1
 abbrev pub numbered : List (Option Cert) → ℕ → Option Cert
@@ -60,7 +60,7 @@ abbrev pub no_node : Place → Option EditRefusal
 no_node q = no_node_at q.path.kids q
 
 abbrev pub no_obligation : Parts → ℕ → Cert → Option EditRefusal
-no_obligation parts k c = if nat_le 1 k && nat_le k (length parts.main.certs) then too_long c else Some (refusal.NoObligation k)
+no_obligation parts k c = if nat_le 1 k && nat_le k (length parts.main.certs) then cert_limit c else Some (refusal.NoObligation k)
 
 -- the first test that refuses the edit, told from the parts
 abbrev pub refusal_in : Parts → Edit → Option EditRefusal

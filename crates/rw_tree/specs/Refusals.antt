@@ -1,5 +1,5 @@
 -- Which test refuses an edit after a list of edits.
-use Rattle.std.specs.Prelude.{◌≡◌, ℕ, Bool, not, ◌&&◌, ◌||◌, if◌then◌else◌, nat_le, nat_lt, length, List, [], ◌∷◌, map, Option, Some, None}
+use Rattle.std.specs.Prelude.{◌≡◌, ℕ, Bool, true, not, ◌&&◌, ◌||◌, if◌then◌else◌, nat_le, nat_lt, length, List, [], ◌∷◌, map, Option, Some, None}
 use Rattle.rw_terms.specs.declared.scope.Entry.{Entry}
 use Rattle.rw_terms.specs.declared.term.Formula.{Formula}
 use Rattle.rw_faults.specs.Faults.{first_name, unknown_in, is_ill_sorted}
@@ -7,7 +7,10 @@ use Rattle.rw_faults.specs.Initial.{is_twice, initial_outside}
 use Rattle.rw_faults.specs.Limits.{is_light, is_shallow, is_small}
 use Rattle.rw_programs.specs.declared.prog.Param.{Param}
 use Rattle.rw_programs.specs.declared.prog.Spec.{Spec}
+use Rattle.std.specs.List.{list_all}
 use Rattle.rw_sequents.specs.declared.line.Cert.{Cert}
+use Rattle.rw_sequents.specs.declared.line.CertLine.{CertLine}
+use Rattle.rw_sequents.specs.declared.line.CertLine.TheVariants as line
 use Rattle.rw_tree.specs.declared.edit.Place.{Place}
 use Rattle.rw_tree.specs.declared.edit.Edit.{Edit}
 use Rattle.rw_tree.specs.declared.edit.Edit.TheVariants as edit
@@ -74,16 +77,25 @@ at_node l q ask = if is_node l q.path.kids then ask else Some (refusal.NoNode q)
 abbrev pub has_obligation : List Edit → List ℕ → ℕ → Bool
 has_obligation l p k = nat_le 1 k && nat_le k (obligations_in (step_at l p))
 
--- a certificate has at most 4096 lines
-abbrev pub too_long : Cert → Option EditRefusal
-too_long c = if nat_le (length c.lines) 4096 then None else Some (refusal.Limit which.Lines 4096)
+-- the formula of a line, if it has one, passes a test
+abbrev pub passes : (Formula → Bool) → CertLine → Bool
+passes test (line.Cut f) = test f
+passes test _ = true
+
+-- the first limit that a certificate passes: the weight and the depth of each formula in it, and 4096 lines
+abbrev pub cert_limit : Cert → Option EditRefusal
+cert_limit c =
+    if not (list_all (passes is_light) c.lines) then Some (refusal.Limit which.Weight 1024)
+    else if not (list_all (passes is_shallow) c.lines) then Some (refusal.Limit which.Depth 64)
+    else if nat_le (length c.lines) 4096 then None
+    else Some (refusal.Limit which.Lines 4096)
 
 -- the first test that refuses the edit after the list, if one does
 abbrev pub refusal_of : List Edit → Edit → Option EditRefusal
 refusal_of l (edit.Var p) = var_refusal (globals_of l) p
 refusal_of l (edit.Root w) = root_refusal (globals_of l) w
 refusal_of l (edit.Step q s) = at_node l q None
-refusal_of l (edit.Prove q k c) = at_node l q (if has_obligation l q.path.kids k then too_long c else Some (refusal.NoObligation k))
+refusal_of l (edit.Prove q k c) = at_node l q (if has_obligation l q.path.kids k then cert_limit c else Some (refusal.NoObligation k))
 
 -- no test refuses the edit after the list
 abbrev pub Accepts : List Edit → Edit → Type 0

@@ -5,7 +5,7 @@ ghost use Rattle.rw_laws.specs.Laws.{FitsWith, MisfitsBy};
 ghost use Rattle.rw_sequents.specs.declared.line.Cert.{Cert};
 ghost use Rattle.rw_tree.specs.declared.edit.Edit.{Edit};
 ghost use Rattle.rw_tree.specs.Refusals.{IsGood};
-ghost use Rattle.rw_tree.specs.Anew.{anew, main_context, root_place, law_at, state_of, needs_from, judged_step, pending_from};
+ghost use Rattle.rw_tree.specs.Anew.{anew, main_context, root_place, law_at, no_library, state_of, needs_from, judged_step, pending_from};
 ghost use Rattle.rw_tree.specs.Parts.{Makes, HasFewLines, numbered, mark_in, judged_in};
 
 use crate::edit::{Path, Place, Step, TreeName};
@@ -13,6 +13,7 @@ use crate::globals::scope_of;
 use crate::parts::Parts;
 use crate::refusal::TreeError;
 use crate::status::{Judgement, Need, NeedState, NodeMark, Status, Statuses};
+use rw_goals::library::Library;
 use rw_items::Items;
 use rw_laws::apply::obligations;
 use rw_programs::applied::{ApplyError, Context};
@@ -184,6 +185,15 @@ fn cert_at(certs: &[Option<Cert>], at: usize) -> Option<&Cert>
     }
 }
 
+// No definitions and lemmas are there yet.
+fn no_library(alloc: Global) -> Library
+    ensures { result ≡ no_library }
+{
+    Library {
+        entries: Items::new(alloc),
+    }
+}
+
 fn state_of<L: Ledger>(
     alloc: Global,
     sequent: &Sequent,
@@ -195,7 +205,7 @@ fn state_of<L: Ledger>(
 {
     match cert {
         None => Ok(NeedState::Missing),
-        Some(cert) => match check(alloc, sequent, cert, steps) {
+        Some(cert) => match check(alloc, &no_library(alloc), 0, sequent, cert, steps) {
             Ok(Verdict::Good) => Ok(NeedState::Good),
             Ok(Verdict::Bad { line, sub, cause }) => Ok(NeedState::Bad(line, sub, cause)),
             Err(_) => Err(TreeError::Memory),

@@ -2,6 +2,7 @@
 #![tactic(auto)]
 
 pub mod anew;
+pub mod certificate;
 pub mod edit;
 pub mod globals;
 pub mod parts;

@@ -2,10 +2,11 @@
 
 ghost use Rattle.std.specs.Prelude.{◌≡◌, ◌≤◌, ◌⊎◌, List, [], ◌∷◌, OnOk, OnErr, IfOk, IfErr, length, take, replicate, Some, None};
 ghost use Rattle.rw_tree.specs.Edits.{obligations_of};
-ghost use Rattle.rw_tree.specs.Refusals.{refusal_of, too_long, var_refusal};
+ghost use Rattle.rw_tree.specs.Refusals.{refusal_of, var_refusal};
 ghost use Rattle.rw_tree.specs.Parts.{Makes, resized, with_step, with_cert, applied_to, refusal_in, no_node, no_obligation};
 ghost use Rattle.rw_tree.specs.declared.edit.Edit.{Edit};
 
+use crate::certificate::cert_limit;
 use crate::edit::{Edit, Place, Step};
 use crate::globals::is_param;
 use crate::refusal::{EditRefusal, Which};
@@ -14,8 +15,6 @@ use rw_items::Items;
 use rw_programs::prog::{Param, Spec};
 use rw_sequents::line::Cert;
 use std::alloc::{AllocError, Global};
-
-const MOST_LINES: u32 = 4096;
 
 /// A node: its step, and a certificate or none for each obligation of the step.
 #[derive(Drop)]
@@ -116,17 +115,7 @@ fn no_obligation(parts: &Parts, number: u32, cert: &Cert) -> Option<EditRefusal>
     if number == 0 || number as usize > parts.main.certs.len() {
         return Some(EditRefusal::NoObligation(number));
     }
-    too_long(cert)
-}
-
-fn too_long(cert: &Cert) -> Option<EditRefusal>
-    ensures { result ≡ too_long cert.now }
-{
-    if cert.lines.len() <= MOST_LINES as usize {
-        None
-    } else {
-        Some(EditRefusal::Limit(Which::Lines, MOST_LINES))
-    }
+    cert_limit(cert)
 }
 
 // Applies an edit that no test refuses.

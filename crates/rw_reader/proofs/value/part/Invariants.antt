@@ -7,6 +7,7 @@ use Rattle.rw_reader.proofs.value.part.Given as goal
 abbrev pub invariant-tokens : goal.invariant-tokens
 invariant-tokens l = record {
   place : IsPlace l.line l.at;
+  on : l.fn.at ≤ l.at;
   inside : Inside l.most l.goal l.line l.fn.at l.at l.state;
   opened : nest l.state ≤ 512;
 }

@@ -16,20 +16,20 @@ returns-in_err-expect c = let p = err_from_is_err_and c.from_residual-in_err-exp
 
 pub returns-in_err-pre : goal.returns-in_err-pre
 unfolding spec
-returns-in_err-pre c = let p = err_from_is_err_and c.from_residual-in_err-pre.result c.from_residual-in_err-pre.ensures.1 in rw (p.1, p.2) (λ k. carried c.args.line.now _ (c.in_ok-frame.ensures.1 _ ∙ c.in_ok-expect.ensures.took.1 _) (c.in_err-pre.ensures _))
+returns-in_err-pre c = let p = err_from_is_err_and c.from_residual-in_err-pre.result c.from_residual-in_err-pre.ensures.1 in rw (p.1, p.2) (λ k. carried c.args.line.now _ (c.in_ok-frame.ensures.1 _ ∙ c.in_ok-expect.ensures.took.1 _) (c.in_err-pre.ensures.took _))
 
 pub returns-in_err-expect-2 : goal.returns-in_err-expect-2
 unfolding spec
-returns-in_err-expect-2 c = let p = err_from_is_err_and c.from_residual-in_err-expect-2.result c.from_residual-in_err-expect-2.ensures.1 in rw (p.1, p.2) (λ k. carried c.args.line.now _ (c.in_ok-frame.ensures.1 _ ∙ c.in_ok-expect.ensures.took.1 _ ∙ c.in_ok-pre.ensures.1 _) (c.in_err-expect-2.ensures.took _))
+returns-in_err-expect-2 c = let p = err_from_is_err_and c.from_residual-in_err-expect-2.result c.from_residual-in_err-expect-2.ensures.1 in rw (p.1, p.2) (λ k. carried c.args.line.now _ (c.in_ok-frame.ensures.1 _ ∙ c.in_ok-expect.ensures.took.1 _ ∙ c.in_ok-pre.ensures.took.1 _) (c.in_err-expect-2.ensures.took _))
 
 pub returns-in_err-post : goal.returns-in_err-post
 unfolding spec
-returns-in_err-post c = let p = err_from_is_err_and c.from_residual-in_err-post.result c.from_residual-in_err-post.ensures.1 in rw (p.1, p.2) (λ k. carried c.args.line.now _ (c.in_ok-frame.ensures.1 _ ∙ c.in_ok-expect.ensures.took.1 _ ∙ c.in_ok-pre.ensures.1 _ ∙ c.in_ok-expect-2.ensures.took.1 _) (c.in_err-post.ensures _))
+returns-in_err-post c = let p = err_from_is_err_and c.from_residual-in_err-post.result c.from_residual-in_err-post.ensures.1 in rw (p.1, p.2) (λ k. carried c.args.line.now _ (c.in_ok-frame.ensures.1 _ ∙ c.in_ok-expect.ensures.took.1 _ ∙ c.in_ok-pre.ensures.took.1 _ ∙ c.in_ok-expect-2.ensures.took.1 _) (c.in_err-post.ensures.took _))
 
 pub returns-in_err-expect-3 : goal.returns-in_err-expect-3
 unfolding spec
-returns-in_err-expect-3 c = let p = err_from_is_err_and c.from_residual-in_err-expect-3.result c.from_residual-in_err-expect-3.ensures.1 in rw (p.1, p.2) (λ k. carried c.args.line.now _ (c.in_ok-frame.ensures.1 _ ∙ c.in_ok-expect.ensures.took.1 _ ∙ c.in_ok-pre.ensures.1 _ ∙ c.in_ok-expect-2.ensures.took.1 _ ∙ c.in_ok-post.ensures.1 _) (c.in_err-expect-3.ensures.took _))
+returns-in_err-expect-3 c = let p = err_from_is_err_and c.from_residual-in_err-expect-3.result c.from_residual-in_err-expect-3.ensures.1 in rw (p.1, p.2) (λ k. carried c.args.line.now _ (c.in_ok-frame.ensures.1 _ ∙ c.in_ok-expect.ensures.took.1 _ ∙ c.in_ok-pre.ensures.took.1 _ ∙ c.in_ok-expect-2.ensures.took.1 _ ∙ c.in_ok-post.ensures.took.1 _) (c.in_err-expect-3.ensures.took _))
 
 pub returns : goal.returns
 unfolding spec
-returns c = (c.in_ok-expect-3.ensures.took.0, λ k. c.in_ok-frame.ensures.1 _ ∙ c.in_ok-expect.ensures.took.1 _ ∙ c.in_ok-pre.ensures.1 _ ∙ c.in_ok-expect-2.ensures.took.1 _ ∙ c.in_ok-post.ensures.1 _ ∙ c.in_ok-expect-3.ensures.took.1 _ ∙ ap (λ s. read_form (k s) (drop c.expect-3.new.at c.args.line.now)) (made_spec _ _ _ _ _ _ c.into_inner-pre.ensures c.into_inner-post.ensures c.in_ok-new.ensures))
+returns c = (c.in_ok-expect-3.ensures.took.0, λ k. c.in_ok-frame.ensures.1 _ ∙ c.in_ok-expect.ensures.took.1 _ ∙ c.in_ok-pre.ensures.took.1 _ ∙ c.in_ok-expect-2.ensures.took.1 _ ∙ c.in_ok-post.ensures.took.1 _ ∙ c.in_ok-expect-3.ensures.took.1 _ ∙ ap (λ s. read_form (k s) (drop c.expect-3.new.at c.args.line.now)) (made_spec _ _ _ _ _ _ c.into_inner-pre.ensures c.into_inner-post.ensures c.in_ok-new.ensures))

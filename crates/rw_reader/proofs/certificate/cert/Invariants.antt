@@ -1,0 +1,15 @@
+use Rattle.std.proofs.Common.{◌-◌, length}
+use Rattle.std.specs.Prelude.{codes}
+use Rattle.rw_reader.specs.Forms.{a_line, line_form, line_in}
+use Rattle.rw_reader.specs.Progress.{IsPlace}
+use Rattle.rw_reader.proofs.Listing.{Listed}
+use Rattle.rw_reader.proofs.certificate.cert.Given as goal
+
+abbrev pub invariant-lines : goal.invariant-lines
+invariant-lines l = record {
+  place : IsPlace l.line l.at;
+  listed : Listed line_form (codes ";") a_line line_in l.line l.fn.at l.at l.lines;
+}
+
+abbrev pub decreases-lines : goal.decreases-lines
+decreases-lines l = length l.line - l.at

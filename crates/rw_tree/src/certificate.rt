@@ -1,0 +1,70 @@
+//! The limits of a certificate.
+
+ghost use Rattle.std.specs.Prelude.{◌≡◌};
+ghost use Rattle.std.specs.List.{list_all};
+ghost use Rattle.rw_faults.specs.Limits.{is_light as is_light_formula, is_shallow as is_shallow_formula};
+ghost use Rattle.rw_tree.specs.Refusals.{passes, cert_limit};
+
+use crate::refusal::{EditRefusal, Which};
+use rw_faults::limits::{is_light, is_shallow};
+use rw_sequents::line::{Cert, CertLine};
+use rw_terms::sorts::{MOST_DEPTH, MOST_PARTS};
+
+const MOST_LINES: u32 = 4096;
+
+/// The first limit that the certificate passes: the weight and the depth of each formula in it, and the number of its lines.
+pub fn cert_limit(cert: &Cert) -> Option<EditRefusal>
+    ensures { result ≡ cert_limit cert.now }
+{
+    if !are_light(cert.lines.as_slice()) {
+        return Some(EditRefusal::Limit(Which::Weight, MOST_PARTS));
+    }
+    if !are_shallow(cert.lines.as_slice()) {
+        return Some(EditRefusal::Limit(Which::Depth, MOST_DEPTH));
+    }
+    if cert.lines.len() <= MOST_LINES as usize {
+        None
+    } else {
+        Some(EditRefusal::Limit(Which::Lines, MOST_LINES))
+    }
+}
+
+fn are_light(lines: &[CertLine]) -> bool
+    ensures { result ≡ list_all (passes is_light_formula) lines.now }
+{
+    for line in lines {
+        if !is_light_line(line) {
+            return false;
+        }
+    }
+    true
+}
+
+fn is_light_line(line: &CertLine) -> bool
+    ensures { result ≡ passes is_light_formula line.now }
+{
+    match line {
+        CertLine::Cut(formula) => is_light(formula),
+        _ => true,
+    }
+}
+
+fn are_shallow(lines: &[CertLine]) -> bool
+    ensures { result ≡ list_all (passes is_shallow_formula) lines.now }
+{
+    for line in lines {
+        if !is_shallow_line(line) {
+            return false;
+        }
+    }
+    true
+}
+
+fn is_shallow_line(line: &CertLine) -> bool
+    ensures { result ≡ passes is_shallow_formula line.now }
+{
+    match line {
+        CertLine::Cut(formula) => is_shallow(formula),
+        _ => true,
+    }
+}
