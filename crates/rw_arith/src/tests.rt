@@ -23,56 +23,54 @@ use std::test::Fail;
 #[derive(Drop)]
 struct Stack {
     alloc: Global,
-    terms: Vec<Term>,
+    terms: Vec<Boxed<Term>>,
 }
 
 impl Stack {
-    fn term(&mut self) -> Result<Term, Fail> {
+    fn pop(&mut self) -> Result<Boxed<Term>, Fail> {
         Ok(self.terms.pop().ok_or("no term")?)
     }
 
-    fn boxed(&mut self) -> Result<Boxed<Term>, Fail> {
-        let term = self.term()?;
-        Ok(Boxed::new(self.alloc, term)?)
+    fn push(&mut self, term: Term) -> Result<(), Fail> {
+        let term = Boxed::new(self.alloc, term)?;
+        self.terms.push(term)?;
+        Ok(())
     }
 
     fn operator(&mut self, word: &str) -> Result<(), Fail> {
-        let b = self.boxed()?;
-        let a = self.boxed()?;
-        let term = match word {
+        let b = self.pop()?;
+        let a = self.pop()?;
+        self.push(match word {
             "+" => Term::Add(a, b),
             "-" => Term::Sub(a, b),
             "*" => Term::Mul(a, b),
             "div" => Term::Div(a, b),
             "mod" => Term::Mod(a, b),
             _ => Term::Read(a, b),
-        };
-        self.terms.push(term)?;
-        Ok(())
+        })
     }
 
     fn put(&mut self) -> Result<(), Fail> {
-        let e = self.boxed()?;
-        let i = self.boxed()?;
-        let a = self.boxed()?;
-        self.terms.push(Term::Put(a, i, e))?;
-        Ok(())
+        let e = self.pop()?;
+        let i = self.pop()?;
+        let a = self.pop()?;
+        self.push(Term::Put(a, i, e))
     }
 
     // A number, `max` for the greatest, a name, or a binder as `_1`.
     fn leaf(&mut self, word: &str) -> Result<(), Fail> {
-        let term = if word == "max" {
-            Term::Lit(i128::MAX)
-        } else if let Some(k) = word.strip_prefix("_") {
-            Term::Bound(k.parse::<u32>()?)
-        } else {
-            match word.parse::<i128>() {
-                Ok(n) => Term::Lit(n),
-                Err(_) => Term::Var(Name::read(word.as_bytes())?),
-            }
-        };
-        self.terms.push(term)?;
-        Ok(())
+        if word == "max" {
+            return self.push(Term::Lit(i128::MAX));
+        }
+        if let Some(k) = word.strip_prefix("_") {
+            let k = k.parse::<u32>()?;
+            return self.push(Term::Bound(k));
+        }
+        if let Ok(n) = word.parse::<i128>() {
+            return self.push(Term::Lit(n));
+        }
+        let name = Name::read(word.as_bytes())?;
+        self.push(Term::Var(name))
     }
 
     fn word(&mut self, word: &str) -> Result<(), Fail> {
@@ -80,9 +78,8 @@ impl Stack {
             "+" | "-" | "*" | "div" | "mod" | "[]" => self.operator(word),
             "put" => self.put(),
             "neg" => {
-                let a = self.boxed()?;
-                self.terms.push(Term::Neg(a))?;
-                Ok(())
+                let a = self.pop()?;
+                self.push(Term::Neg(a))
             }
             _ => self.leaf(word),
         }
@@ -100,20 +97,33 @@ fn words_of(alloc: Global, text: &str) -> Result<Stack, Fail> {
     Ok(stack)
 }
 
-fn term(alloc: Global, text: &str) -> Result<Term, Fail> {
-    words_of(alloc, text)?.term()
+fn term(alloc: Global, text: &str) -> Result<Boxed<Term>, Fail> {
+    let mut stack = words_of(alloc, text)?;
+    stack.pop()
 }
 
-fn formula(alloc: Global, text: &str) -> Result<Formula, Fail> {
+fn formula(alloc: Global, text: &str) -> Result<Boxed<Formula>, Fail> {
     let (words, relation) = text.rsplit_once(' ').ok_or("no relation")?;
     let mut stack = words_of(alloc, words)?;
-    let u = stack.term()?;
-    let t = stack.term()?;
-    Ok(match relation {
+    let u = stack.pop()?;
+    let t = stack.pop()?;
+    related(alloc, relation, t, u)
+}
+
+fn related(
+    alloc: Global,
+    relation: &str,
+    t: Boxed<Term>,
+    u: Boxed<Term>,
+) -> Result<Boxed<Formula>, Fail> {
+    let t = t.into_inner();
+    let u = u.into_inner();
+    let formula = match relation {
         "=" => Formula::Eq(t, u),
         "<" => Formula::Less(t, u),
         _ => Formula::AtMost(t, u),
-    })
+    };
+    Ok(Boxed::new(alloc, formula)?)
 }
 
 fn tell_atom(told: &mut Text, atom: &Term) -> Result<(), Fail> {
@@ -154,7 +164,7 @@ fn told(alloc: Global, expansion: &Expansion) -> Result<Text, Fail> {
 
 fn expansion_case(alloc: Global, text: &str) -> Result<Text, Fail> {
     let term = term(alloc, text)?;
-    let expansion = expand(alloc, &term)?;
+    let expansion = expand(alloc, term.get())?;
     told(alloc, &expansion)
 }
 
@@ -262,13 +272,13 @@ fn a_polynomial_has_at_most_256_products_beside_the_constant(rt: HostRuntime) ->
 
 fn left_case(alloc: Global, text: &str) -> Result<Text, Fail> {
     let formula = formula(alloc, text)?;
-    let given = given_by_left(alloc, &formula)?;
+    let given = given_by_left(alloc, formula.get())?;
     told(alloc, &given)
 }
 
 fn right_case(alloc: Global, text: &str) -> Result<Text, Fail> {
     let formula = formula(alloc, text)?;
-    let given = given_by_right(alloc, &formula)?;
+    let given = given_by_right(alloc, formula.get())?;
     told(alloc, &given)
 }
 
@@ -294,7 +304,7 @@ fn formulas_give_polynomials_that_are_0_or_at_least_0(rt: HostRuntime) -> Result
 
 fn polynomial_case(alloc: Global, text: &str) -> Result<bool, Fail> {
     let term = term(alloc, text)?;
-    Ok(is_polynomial(&term))
+    Ok(is_polynomial(term.get()))
 }
 
 #[test]
@@ -380,7 +390,8 @@ fn sides(alloc: Global, text: &str) -> Result<Items<Formula>, Fail> {
     if text.is_empty() {
         return Ok(formulas);
     }
-    formulas.push(formula(alloc, text)?)?;
+    let formula = formula(alloc, text)?;
+    formulas.push(formula.into_inner())?;
     Ok(formulas)
 }
 

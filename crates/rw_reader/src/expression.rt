@@ -150,6 +150,7 @@ mod tests {
                 (b"x00", Some(0)),
                 (b"x01", None),
                 (b"X", None),
+                (b"X0", Some(0)),
                 (b"_1", Some(0)),
                 (b"_0", Some(0)),
                 (b"div", Some(0)),
