@@ -176,7 +176,7 @@ module _ (scope : List Entry) where
       formula_at y binders e h =
           layer y binders (sym (λ i. fold-roll-Formula (List Sort → Bool) (keeps_step scope heads) (inside y) i binders) ∙ e) (sym (fold-roll-Formula Bool (formula_stands_step g x) (inside y)) ∙ h)
 
-      formula_allowed : (f : Formula) → Claim f
+      pub formula_allowed : (f : Formula) → Claim f
       formula_allowed = ind-Formula Claim (λ u y is. subst (λ z. Claim (roll-Formula z)) is (formula_at y))
 
   -- in a formula and slots that keep to the kinds, each name stands as its kind allows

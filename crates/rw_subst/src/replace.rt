@@ -52,6 +52,16 @@ pub fn to_initial(alloc: Global, formula: &Formula, frame: &[Name]) -> Result<Fo
     replace(alloc, formula, changes.as_slice())
 }
 
+/// The term with each variable of the frame as initial variable.
+pub fn term_to_initial(alloc: Global, term: &Term, frame: &[Name]) -> Result<Term, SubstError>
+    ensures replaced { IfOk result (λ t. t ≡ replaced_term (map to_initial frame.now) term.now) }
+    ensures small { IfOk result IsSmall }
+    ensures large { IfErr result (IsTermRefusal (replaced_term (map to_initial frame.now) term.now)) }
+{
+    let changes = changes_to_initial(alloc, frame)?;
+    replace_term(alloc, term, changes.as_slice())
+}
+
 /// The formula with each initial variable of the frame as variable.
 pub fn from_initial(alloc: Global, formula: &Formula, frame: &[Name]) -> Result<Formula, SubstError>
     ensures replaced { IfOk result (λ f. f ≡ replaced_formula (map from_initial frame.now) formula.now) }
