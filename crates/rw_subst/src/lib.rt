@@ -2,7 +2,7 @@
 #![tactic(auto)]
 
 mod build;
-pub mod conditions;
+mod conditions;
 mod counting;
 pub mod defined;
 pub mod error;

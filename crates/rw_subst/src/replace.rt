@@ -100,8 +100,7 @@ fn rebuilt(alloc: Global, formula: &Formula, rule: &Rule) -> Result<Formula, Sub
     Ok(build(alloc, rule, formula, 0)?)
 }
 
-/// The change of each variable of the frame to its initial variable.
-pub fn changes_to_initial(alloc: Global, frame: &[Name]) -> Result<Items<Change>, AllocError>
+fn changes_to_initial(alloc: Global, frame: &[Name]) -> Result<Items<Change>, AllocError>
     ensures { IfOk result (λ changes. changes ≡ map to_initial frame.now) }
 {
     let mut changes = Items::new(alloc);
@@ -114,8 +113,7 @@ pub fn changes_to_initial(alloc: Global, frame: &[Name]) -> Result<Items<Change>
     Ok(changes)
 }
 
-/// The change of each initial variable of the frame to its variable.
-pub fn changes_from_initial(alloc: Global, frame: &[Name]) -> Result<Items<Change>, AllocError>
+fn changes_from_initial(alloc: Global, frame: &[Name]) -> Result<Items<Change>, AllocError>
     ensures { IfOk result (λ changes. changes ≡ map from_initial frame.now) }
 {
     let mut changes = Items::new(alloc);
