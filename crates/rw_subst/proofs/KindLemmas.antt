@@ -115,7 +115,7 @@ module _ (scope : List Entry) where
       term_at y s e h =
           term_layer y s (sym (fold-roll-Term (Option Sort) (sort_step scope binders) (under y)) ∙ e) (sym (fold-roll-Term Bool (stands_step g x) (under y)) ∙ h)
 
-      term_allowed : (t : Term) → TermClaim t
+      pub term_allowed : (t : Term) → TermClaim t
       term_allowed = ind-Term TermClaim (λ u y is. subst (λ z. TermClaim (roll-Term z)) is (term_at y))
 
       has_sort : (s : Sort) (o : Option Sort) → is_of s o ≡ true → (t : Sort) × (o ≡ Some t)

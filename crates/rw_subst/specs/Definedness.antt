@@ -88,3 +88,7 @@ module _ (scope : List Entry) where
 
   abbrev pub guard_definedness : Formula → Formula
   guard_definedness f = conj (guard_conditions f)
+
+  -- and that each of some terms is
+  abbrev pub definedness_of : List Term → Formula
+  definedness_of ts = conj (conditions_of ts)

@@ -40,8 +40,9 @@ pub fn count_term(scope: &Scope, term: &Term, so_far: Option<Size>) -> Option<Si
     }
 }
 
+/// The same of terms, one after another.
 #[cycle(count_term)]
-fn count_terms(scope: &Scope, terms: &[Term], so_far: Option<Size>) -> Option<Size>
+pub fn count_terms(scope: &Scope, terms: &[Term], so_far: Option<Size>) -> Option<Size>
     ensures { result ≡ sizes_joined so_far (conditions_of scope.now terms.now) }
 {
     let mut all = so_far;

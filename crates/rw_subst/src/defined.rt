@@ -4,11 +4,11 @@ ghost use Rattle.std.specs.Prelude.{◌≡◌, min, IfOk, IfErr};
 ghost use Rattle.rw_terms.specs.WellFormed.{IsSmallFormula};
 ghost use Rattle.rw_terms.specs.Size.{formula_weight, formula_depth};
 ghost use Rattle.rw_subst.specs.Conj.{size_or_one};
-ghost use Rattle.rw_subst.specs.Definedness.{definedness, guard_definedness};
+ghost use Rattle.rw_subst.specs.Definedness.{definedness, guard_definedness, definedness_of};
 ghost use Rattle.rw_subst.specs.Limits.{IsFormulaRefusal};
 
-use crate::conditions::{ask_guard, ask_term, join};
-use crate::counting::{count_guard, count_term};
+use crate::conditions::{ask_guard, ask_term, ask_terms, join};
+use crate::counting::{count_guard, count_term, count_terms};
 use crate::error::SubstError;
 use crate::size::{ONE, Size, fit};
 use rw_items::Items;
@@ -42,11 +42,30 @@ pub fn defined_guard(alloc: Global, scope: &Scope, guard: &Formula) -> Result<Fo
     Ok(join(alloc, found)?)
 }
 
+/// The same for terms, one after another.
+pub fn defined_terms(alloc: Global, scope: &Scope, terms: &[Term]) -> Result<Formula, SubstError>
+    ensures defined { IfOk result (λ f. f ≡ definedness_of scope.now terms.now) }
+    ensures small { IfOk result IsSmallFormula }
+    ensures large { IfErr result (IsFormulaRefusal (definedness_of scope.now terms.now)) }
+{
+    fit(size_of_all_definedness(scope, terms))?;
+    let mut found = Items::new(alloc);
+    ask_terms(alloc, scope, terms, &mut found)?;
+    Ok(join(alloc, found)?)
+}
+
 fn size_of_definedness(scope: &Scope, term: &Term) -> Size
     ensures weight { result.weight ≡ min (formula_weight (definedness scope.now term.now)) u32.MAX }
     ensures depth { result.depth ≡ min (formula_depth (definedness scope.now term.now)) u32.MAX }
 {
     size_or_one(count_term(scope, term, None))
+}
+
+fn size_of_all_definedness(scope: &Scope, terms: &[Term]) -> Size
+    ensures weight { result.weight ≡ min (formula_weight (definedness_of scope.now terms.now)) u32.MAX }
+    ensures depth { result.depth ≡ min (formula_depth (definedness_of scope.now terms.now)) u32.MAX }
+{
+    size_or_one(count_terms(scope, terms, None))
 }
 
 fn size_of_guard_definedness(scope: &Scope, guard: &Formula) -> Size

@@ -2,7 +2,7 @@
 #![tactic(auto)]
 
 mod build;
-mod conditions;
+pub mod conditions;
 mod counting;
 pub mod defined;
 pub mod error;

@@ -100,7 +100,8 @@ fn rebuilt(alloc: Global, formula: &Formula, rule: &Rule) -> Result<Formula, Sub
     Ok(build(alloc, rule, formula, 0)?)
 }
 
-fn changes_to_initial(alloc: Global, frame: &[Name]) -> Result<Items<Change>, AllocError>
+/// The change of each variable of the frame to its initial variable.
+pub fn changes_to_initial(alloc: Global, frame: &[Name]) -> Result<Items<Change>, AllocError>
     ensures { IfOk result (λ changes. changes ≡ map to_initial frame.now) }
 {
     let mut changes = Items::new(alloc);
@@ -113,7 +114,8 @@ fn changes_to_initial(alloc: Global, frame: &[Name]) -> Result<Items<Change>, Al
     Ok(changes)
 }
 
-fn changes_from_initial(alloc: Global, frame: &[Name]) -> Result<Items<Change>, AllocError>
+/// The change of each initial variable of the frame to its variable.
+pub fn changes_from_initial(alloc: Global, frame: &[Name]) -> Result<Items<Change>, AllocError>
     ensures { IfOk result (λ changes. changes ≡ map from_initial frame.now) }
 {
     let mut changes = Items::new(alloc);
