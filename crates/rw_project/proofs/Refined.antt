@@ -21,8 +21,8 @@ use Rattle.rw_sequents.proofs.Runs.{good_valid}
 use Rattle.rw_faults.specs.Limits.{is_small}
 use Rattle.rw_subst.proofs.Initially.{current_for_initial}
 use Rattle.rw_programs.specs.declared.applied.Misfit.TheVariants as cause
-use Rattle.rw_laws.specs.Laws.{fits, misfit, law_of, skip_law, unchanged_post, sequent_over}
-use Rattle.rw_laws.specs.declared.step.BasicStep.TheVariants as basic
+use Rattle.rw_skip.specs.Laws.{fits, misfit, law_of, skip_law, unchanged_post, sequent_over}
+use Rattle.rw_skip.specs.declared.step.BasicStep.TheVariants as basic
 use Rattle.rw_tree.specs.declared.edit.Edit.{Edit}
 use Rattle.rw_tree.specs.declared.edit.Step.{Step}
 use Rattle.rw_tree.specs.declared.edit.Step.TheVariants as step

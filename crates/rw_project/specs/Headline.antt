@@ -11,7 +11,7 @@ use Rattle.rw_programs.specs.Refine.{Wp, Refines}
 use Rattle.rw_programs.specs.declared.applied.Context.{Context}
 use Rattle.rw_tree.specs.declared.edit.Edit.{Edit}
 use Rattle.rw_tree.specs.declared.edit.Step.{Step}
-use Rattle.rw_laws.specs.Laws.{Law, fits, misfit}
+use Rattle.rw_skip.specs.Laws.{Law, fits, misfit}
 use Rattle.rw_tree.specs.Edits.{global, globals_of, root_of, step_at}
 use Rattle.rw_tree.specs.Anew.{main_context, law_at, anew, IsClosed}
 use Rattle.rw_reader.specs.declared.request.Request.TheVariants as request

@@ -3,7 +3,7 @@ use Rattle.std.proofs.Common.{◌≡◌, ◌∙◌, ℕ, List, sym, ap}
 use Rattle.rw_terms.specs.declared.term.Formula.{Formula}
 use Rattle.rw_programs.specs.declared.prog.Spec.{Spec}
 use Rattle.rw_sequents.specs.declared.line.CertLine.{CertLine}
-use Rattle.rw_laws.specs.declared.step.BasicStep.TheVariants as laws
+use Rattle.rw_skip.specs.declared.step.BasicStep.TheVariants as laws
 use Rattle.rw_tree.specs.declared.edit.Place.{Place}
 use Rattle.rw_tree.specs.declared.edit.Step.TheVariants as steps
 use Rattle.rw_tree.specs.declared.edit.Edit.TheVariants as edits

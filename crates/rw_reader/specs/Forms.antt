@@ -9,7 +9,7 @@ use Rattle.rw_sequents.specs.declared.line.CertLine.{CertLine}
 use Rattle.rw_sequents.specs.declared.line.CertLine.TheVariants as lines
 use Rattle.rw_reader.specs.declared.certificate.Numbered.{Numbered}
 use Rattle.rw_reader.specs.declared.certificate.Numbered.TheVariants as rules
-use Rattle.rw_laws.specs.declared.step.BasicStep.TheVariants as laws
+use Rattle.rw_skip.specs.declared.step.BasicStep.TheVariants as laws
 use Rattle.rw_tree.specs.declared.edit.TreeName.TheVariants as trees
 use Rattle.rw_tree.specs.declared.edit.Place.{Place}
 use Rattle.rw_tree.specs.declared.edit.Step.TheVariants as steps

@@ -12,7 +12,7 @@ use crate::taking::{accept, end, expect, number, sort, variable};
 use crate::token::skip;
 use crate::value::spec;
 use rw_items::Items;
-use rw_laws::step::BasicStep;
+use rw_skip::step::BasicStep;
 use rw_programs::prog::Param;
 use rw_sequents::line::Cert;
 use rw_tree::edit::{Edit, Path, Place, Step, TreeName};

@@ -2,7 +2,7 @@
 use Rattle.std.proofs.Common.{◌≡◌, ℕ, zero, suc, ◌≤◌, Bool, true, false, ◌&&◌, if◌then◌else◌, nat_le, nat_lt, nat_eq, List, [], ◌∷◌, ◌++◌, length, refl, sym, ap, ◌∙◌, arith, Option, Some, None, unwrap_or, inl, inr}
 use Rattle.std.proofs.lemmas.Bool.Decides.{leb_tells, eqb_tells}
 use Rattle.std.proofs.lemmas.List.{length-set}
-use Rattle.rw_laws.specs.declared.step.BasicStep.TheVariants as basic
+use Rattle.rw_skip.specs.declared.step.BasicStep.TheVariants as basic
 use Rattle.rw_sequents.specs.declared.line.Cert.{Cert}
 use Rattle.rw_tree.specs.declared.edit.Place.{Place}
 use Rattle.rw_tree.specs.declared.edit.Step.{Step}

@@ -10,7 +10,7 @@ use Rattle.rw_sequents.specs.declared.line.Verdict.{Verdict}
 use Rattle.rw_sequents.specs.declared.line.Verdict.TheVariants as verdicts
 use Rattle.rw_goals.specs.declared.library.Library.{Library}
 use Rattle.rw_sequents.specs.After.{verdict}
-use Rattle.rw_laws.specs.Laws.{Law, fits, misfit, law_of}
+use Rattle.rw_skip.specs.Laws.{Law, fits, misfit, law_of}
 use Rattle.rw_tree.specs.declared.edit.Edit.{Edit}
 use Rattle.rw_tree.specs.declared.edit.Step.{Step}
 use Rattle.rw_tree.specs.declared.edit.Step.TheVariants as step

@@ -6,7 +6,7 @@ use Rattle.rw_terms.specs.declared.scope.Kind.TheVariants as kind
 use Rattle.rw_programs.specs.declared.prog.Param.{Param}
 use Rattle.rw_programs.specs.declared.prog.Spec.{Spec}
 use Rattle.rw_sequents.specs.declared.line.Cert.{Cert}
-use Rattle.rw_laws.specs.declared.step.BasicStep.TheVariants as basic
+use Rattle.rw_skip.specs.declared.step.BasicStep.TheVariants as basic
 use Rattle.rw_tree.specs.declared.edit.Edit.{Edit}
 use Rattle.rw_tree.specs.declared.edit.Edit.TheVariants as edit
 use Rattle.rw_tree.specs.declared.edit.Step.{Step}

@@ -1,7 +1,7 @@
 //! Checking a project anew.
 
 ghost use Rattle.std.specs.Prelude.{◌≡◌, ◌≤◌, ◌<◌, ◌+◌, ◌⊎◌, ℕ, List, [], IfOk, IfErr, option_copied, length};
-ghost use Rattle.rw_laws.specs.Laws.{FitsWith, MisfitsBy};
+ghost use Rattle.rw_skip.specs.Laws.{FitsWith, MisfitsBy};
 ghost use Rattle.rw_sequents.specs.declared.line.Cert.{Cert};
 ghost use Rattle.rw_tree.specs.declared.edit.Edit.{Edit};
 ghost use Rattle.rw_tree.specs.Refusals.{IsGood};
@@ -15,7 +15,7 @@ use crate::refusal::TreeError;
 use crate::status::{Judgement, Need, NeedState, NodeMark, Status, Statuses};
 use rw_goals::library::Library;
 use rw_items::Items;
-use rw_laws::apply::obligations;
+use rw_skip::apply::obligations;
 use rw_programs::applied::{ApplyError, Context};
 use rw_programs::prog::{Param, Spec};
 use rw_sequents::check::check;

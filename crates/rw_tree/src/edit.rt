@@ -4,7 +4,7 @@ ghost use Rattle.std.specs.Prelude.{◌≡◌, IfOk};
 ghost use Rattle.rw_tree.specs.Edits.{obligations_of};
 
 use rw_items::Items;
-use rw_laws::step::BasicStep;
+use rw_skip::step::BasicStep;
 use rw_programs::prog::{Param, Spec};
 use rw_sequents::line::Cert;
 use std::alloc::{AllocError, Global};

@@ -13,8 +13,8 @@ use Rattle.rw_programs.specs.declared.applied.Context.{Context}
 use Rattle.rw_programs.specs.declared.applied.Applied.{Applied}
 use Rattle.rw_programs.specs.declared.applied.Misfit.{Misfit}
 use Rattle.rw_programs.specs.declared.applied.Misfit.TheVariants as cause
-use Rattle.rw_laws.specs.declared.step.BasicStep.{BasicStep}
-use Rattle.rw_laws.specs.declared.step.BasicStep.TheVariants as step
+use Rattle.rw_skip.specs.declared.step.BasicStep.{BasicStep}
+use Rattle.rw_skip.specs.declared.step.BasicStep.TheVariants as step
 
 -- what the law of a step says: it fits, or it does not by this cause
 pub data Law : Type 0 where

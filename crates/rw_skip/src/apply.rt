@@ -4,7 +4,7 @@ ghost use Rattle.std.specs.Prelude.{◌≡◌, ◌⊎◌, true, false, [], ◌�
 ghost use Rattle.rw_terms.specs.declared.term.Formula.{Formula};
 ghost use Rattle.rw_subst.specs.Limits.{IsFormulaRefusal};
 ghost use Rattle.rw_faults.specs.Limits.{is_small};
-ghost use Rattle.rw_laws.specs.Laws.{law_of, sequent_over, unchanged_post, FitsWith, MisfitsBy};
+ghost use Rattle.rw_skip.specs.Laws.{law_of, sequent_over, unchanged_post, FitsWith, MisfitsBy};
 
 use crate::step::BasicStep;
 use rw_items::Items;
