@@ -168,6 +168,70 @@ fn the_greatest_stays_the_greatest(rt: HostRuntime) -> Result<(), Fail> {
 }
 
 // So many fronts, the middle, and as many backs.
+// The status behind a root, skip and a certificate of what skip owes.
+fn status_by(
+    rt: &impl Abort,
+    alloc: Global,
+    root: &str,
+    cert: &str,
+    status: &str,
+) -> Result<(), Fail> {
+    let script = format!(in alloc; "var x : int\nvar y : int\nvar a : array 3\nvar b : array 3\nroot {root}\nstep main skip\nprove main 1 {cert}\nstatus")?;
+    let replies = format!(in alloc; "ok 1\nok 2\nok 3\nok 4\nok 5\nok 6\nok 7\n{status}\n")?;
+    answers(rt, alloc, &[(script.as_str(), 0, replies.as_str())])
+}
+
+fn statuses_by(rt: &impl Abort, alloc: Global, rows: &[(&str, &str, &str)]) -> Result<(), Fail> {
+    for (root, cert, bad) in rows {
+        let status = format!(in alloc; "ok not closed main pending 1 bad {bad}")?;
+        status_by(rt, alloc, root, cert, status.as_str())?;
+    }
+    Ok(())
+}
+
+fn are_closed(rt: &impl Abort, alloc: Global, rows: &[(&str, &str)]) -> Result<(), Fail> {
+    for (root, cert) in rows {
+        status_by(rt, alloc, root, cert, "ok closed")?;
+    }
+    Ok(())
+}
+
+#[test]
+fn good_certificates_close_the_derivation(rt: HostRuntime) -> Result<(), Fail> {
+    let rows = [
+        ("x:[0 < x, 0 <= x]", "lin [1*L1 + 1*R1]"),
+        (
+            "x:[2 * x = 1, false]",
+            "lin [1*L1] [1/2] [-1*L1] [3/2] [1*2 + 1*4]",
+        ),
+        ("x:[x = 1 and y = 2, y = 2]", "andL 1 ; ax"),
+    ];
+    are_closed(&rt, rt.alloc(), &rows)
+}
+
+#[test]
+fn false_certificates_are_told_by_line_and_cause(rt: HostRuntime) -> Result<(), Fail> {
+    let root = "x:[0 < x, 0 <= x]";
+    let rows = [
+        (root, "ax", "1 4"),
+        (root, "andL 2", "1 3"),
+        (root, "cut true", "2 2"),
+        (root, "cut y = 1", "1 6"),
+        (root, "cut true ; trueR ; ax", "3 4"),
+        (root, "lin [1*L9]", "1.1 9"),
+        (root, "lin [-1*L1]", "1.1 9"),
+        (root, "lin [1*L1]", "1.1 11"),
+        (root, "lin [1*L1 + 1*R1] ; ax", "2 1"),
+        (root, "lin [1*L1 + 1*R1] [1*1] [1*3]", "1.3 9"),
+        (
+            "x:[4 * x = 1, false]",
+            "lin [85070591730234615865843651857942052864*L1]",
+            "1.1 10",
+        ),
+    ];
+    statuses_by(&rt, rt.alloc(), &rows)
+}
+
 fn nested(
     alloc: Global,
     times: u32,

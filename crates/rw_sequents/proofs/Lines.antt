@@ -1,5 +1,11 @@
 -- Each line is sound: where its premises are valid, so is the goal.
-use Rattle.std.proofs.Common.{ℕ}
+use Rattle.std.proofs.Common.{◌≡◌, ℕ, List, Option, Some, None, refl}
+use Rattle.rw_arith.specs.declared.line.LinLine.{LinLine}
+use Rattle.rw_arith.specs.declared.error.LinError.{LinError}
+use Rattle.rw_arith.specs.declared.error.LinError.TheVariants as fault
+use Rattle.rw_arith.specs.Lines.{lines_fault}
+use Rattle.rw_arith.proofs.Refuting.{refuted}
+use Rattle.rw_sequents.specs.Refuted.{by_fault}
 use Rattle.rw_terms.specs.declared.sequent.Sequent.{Sequent}
 use Rattle.rw_terms.specs.Validity.{Valid}
 use Rattle.rw_goals.specs.declared.closing.Closing.TheVariants as closing
@@ -12,6 +18,14 @@ use Rattle.rw_goals.proofs.Parted.{parted_left, parted_right, dropped_left, drop
 use Rattle.rw_sequents.specs.declared.line.CertLine.{CertLine}
 use Rattle.rw_sequents.specs.declared.line.CertLine.TheVariants as line
 use Rattle.rw_sequents.specs.Rules.{after_line}
+
+-- lines that close a goal show that it is valid
+closed_valid : (library : Library) (q : Sequent) (lines : List LinLine) (o : Option LinError) → lines_fault q.left q.right lines ≡ o → AllValid (definitions_of library) (by_fault o) → Valid (definitions_of library) q
+closed_valid library q lines None e v = λ s0 s fits0 fits h k. refuted q.left q.right lines e (definitions_of library) s0 s h k
+closed_valid library q lines (Some (fault.BadLine k)) e v = absurd v
+closed_valid library q lines (Some (fault.Wide k)) e v = absurd v
+closed_valid library q lines (Some (fault.NotContradiction k)) e v = absurd v
+closed_valid library q lines (Some fault.Memory) e v = absurd v
 
 module _ (library : Library) (before : ℕ) where
   pub line_sound : (q : Sequent) (l : CertLine) → AllValid (definitions_of library) (after_line library before q l) → Valid (definitions_of library) q
@@ -30,3 +44,4 @@ module _ (library : Library) (before : ℕ) where
   line_sound q (line.OrR j) v = parted_right (definitions_of library) connective.Or q j v
   line_sound q (line.ImpL i) v = parted_left (definitions_of library) connective.Imp q i v
   line_sound q (line.ImpR j) v = parted_right (definitions_of library) connective.Imp q j v
+  line_sound q (line.Lin lines) v = closed_valid library q lines (lines_fault q.left q.right lines) refl v

@@ -1,5 +1,5 @@
 -- What the goals after the lines of a certificate say of it.
-use Rattle.std.proofs.Common.{◌≡◌, ℕ, ◌+◌, Bool, true, false, List, [], ◌∷◌, length, reverse, take, refl, sym, ◌∙◌, ap, subst, drop, get_or, ◌<◌, ◌≤◌, add-one, drop-cons, ◌++◌}
+use Rattle.std.proofs.Common.{◌≡◌, ℕ, zero, suc, arith, ◌+◌, Bool, true, false, List, [], ◌∷◌, length, reverse, take, refl, sym, ◌∙◌, ap, subst, drop, get_or, ◌<◌, ◌≤◌, add-one, drop-cons, ◌++◌}
 use Rattle.std.proofs.lemmas.List.{reverse-append, drop_all}
 use Rattle.std.proofs.Math.Seq.{take-length}
 use Rattle.rw_terms.specs.declared.sequent.Sequent.{Sequent}
@@ -13,7 +13,7 @@ use Rattle.rw_sequents.specs.declared.line.Verdict.{Verdict}
 use Rattle.rw_sequents.specs.declared.line.Verdict.TheVariants.{Good, Bad}
 use Rattle.rw_terms.specs.Validity.{Each, Valid}
 use Rattle.rw_sequents.specs.Rules.{after_line}
-use Rattle.rw_sequents.specs.After.{Progress, Open, Failed, capped, replaced, step, after_lines, after, Follows, told, verdict, counted, checked}
+use Rattle.rw_sequents.specs.After.{Progress, Open, Failed, capped, replaced, step, after_lines, after, Follows, told, verdict, checked, arithmetic, spent}
 use Rattle.rw_sequents.proofs.Lines.{line_sound}
 
 pub stays : (library : Library) (before : ℕ) (ls : List CertLine) (a b c n : ℕ) → after_lines library before (Failed a b c) ls n ≡ Failed a b c
@@ -73,9 +73,6 @@ module _ (library : Library) (before : ℕ) where
   pub verdict_good : (q : Sequent) (cert : Cert) → after_lines library before (Open (q ∷ [])) cert.lines 1 ≡ Open [] → Good ≡ verdict library before q cert
   verdict_good q cert e = sym (ap (λ p. told p (length cert.lines)) (whole q cert ∙ e))
 
-  pub checked_fails : (q : Sequent) (cert : Cert) (a b c : ℕ) → after_lines library before (Open (q ∷ [])) cert.lines 1 ≡ Failed a b c → a ≡ checked library before q cert
-  checked_fails q cert a b c e = sym (ap (λ p. counted p (length cert.lines)) (whole q cert ∙ e))
-
   next : (gs : List Sequent) (lines : List CertLine) (i n : ℕ) (d : CertLine) (p : Progress) → after_lines library before (Open gs) (drop i lines) n ≡ p → i < length lines →
       after_lines library before (step library before (Open gs) (get_or lines i d) n) (drop (i + 1) lines) (n + 1) ≡ p
   next gs lines i n d p e h = rw add-one ((ap (λ ls. after_lines library before (Open gs) ls n) (sym (drop-cons lines i d h))) ∙ e)
@@ -93,6 +90,32 @@ module _ (library : Library) (before : ℕ) where
   pub goes_on : (gs more : List Sequent) (lines : List CertLine) (i n : ℕ) (d : CertLine) (p : Progress) → after_lines library before (Open gs) (drop i lines) n ≡ p → i < length lines →
       step library before (Open gs) (get_or lines i d) n ≡ Open more → after_lines library before (Open more) (drop (i + 1) lines) (n + 1) ≡ p
   goes_on gs more lines i n d p e h s = ap (λ z. after_lines library before z (drop (i + 1) lines) (n + 1)) (sym s) ∙ next gs lines i n d p e h
+
+-- the steps from a line on
+module _ (library : Library) (before : ℕ) where
+  spent_next : (gs : List Sequent) (lines : List CertLine) (i n : ℕ) (d : CertLine) → i < length lines →
+      spent library before (Open gs) (drop i lines) n ≡ 1 + arithmetic gs (get_or lines i d) + spent library before (step library before (Open gs) (get_or lines i d) n) (drop (i + 1) lines) (n + 1)
+  spent_next gs lines i n d h = rw add-one (ap (λ ls. spent library before (Open gs) ls n) (drop-cons lines i d h))
+
+  pub spent_fails : (gs : List Sequent) (lines : List CertLine) (i n a b c : ℕ) (d : CertLine) → i < length lines →
+      step library before (Open gs) (get_or lines i d) n ≡ Failed a b c → spent library before (Open gs) (drop i lines) n ≡ 1 + arithmetic gs (get_or lines i d)
+  spent_fails gs lines i n a b c d h s =
+      let e = spent_next gs lines i n d h in
+      let z : spent library before (step library before (Open gs) (get_or lines i d) n) (drop (i + 1) lines) (n + 1) ≡ 0 = ap (λ p. spent library before p (drop (i + 1) lines) (n + 1)) s in
+      omega arith
+
+  pub spent_on : (gs more : List Sequent) (lines : List CertLine) (i n : ℕ) (d : CertLine) → i < length lines →
+      step library before (Open gs) (get_or lines i d) n ≡ Open more →
+      spent library before (Open gs) (drop i lines) n ≡ 1 + arithmetic gs (get_or lines i d) + spent library before (Open more) (drop (i + 1) lines) (n + 1)
+  spent_on gs more lines i n d h s = spent_next gs lines i n d h ∙ ap (λ p. 1 + arithmetic gs (get_or lines i d) + spent library before p (drop (i + 1) lines) (n + 1)) s
+
+  pub spent_end : (gs : List Sequent) (lines : List CertLine) (i n : ℕ) → length lines ≤ i → spent library before (Open gs) (drop i lines) n ≡ 0
+  spent_end gs lines i n h = ap (λ ls. spent library before (Open gs) ls n) (drop_all i lines h)
+
+pub each_at : {X : Type 0} (P : X → Type 0) (xs : List X) (i : ℕ) (d : X) → Each P xs → i < length xs → P (get_or xs i d)
+each_at P [] i d h l = absurd (omega (arith, l))
+each_at P (x ∷ xs) zero d h l = h.0
+each_at P (x ∷ xs) (suc i) d h l = each_at P xs i d h.1 (omega arith)
 
 -- the last goal of the list is the top of the stack
 pub last_first : (gs : List Sequent) (q : Sequent) → reverse (gs ++ q ∷ []) ≡ q ∷ reverse gs

@@ -1,10 +1,15 @@
 -- The goals after the lines of a certificate, and what they say of it.
-use Rattle.std.specs.Prelude.{◌≡◌, ℕ, ◌+◌, ltb, Bool, true, false, List, [], ◌∷◌, ◌++◌, length, take, Option, Some, None}
+use Rattle.std.specs.Prelude.{◌≡◌, ◌<◌, ℕ, ◌+◌, ltb, Bool, true, false, List, [], ◌∷◌, ◌++◌, length, take, Option, Some, None}
 use Rattle.rw_terms.specs.declared.sequent.Sequent.{Sequent}
 use Rattle.rw_goals.specs.declared.library.Library.{Library}
 use Rattle.rw_goals.specs.Premises.{Effect, Fails, Premises}
 use Rattle.rw_sequents.specs.declared.check.Fault.{Fault}
+use Rattle.rw_terms.specs.Validity.{Each}
+use Rattle.rw_arith.specs.Lines.{lines_fault}
+use Rattle.rw_sequents.specs.Refuted.{checked_of}
+use Rattle.rw_sequents.specs.Counting.{arithmetic_lines}
 use Rattle.rw_sequents.specs.declared.line.CertLine.{CertLine}
+use Rattle.rw_sequents.specs.declared.line.CertLine.TheVariants as line
 use Rattle.rw_sequents.specs.declared.line.Cert.{Cert}
 use Rattle.rw_sequents.specs.declared.line.Verdict.{Verdict}
 use Rattle.rw_sequents.specs.declared.line.Verdict.TheVariants.{Good, Bad}
@@ -57,15 +62,31 @@ told (Open []) lines = Good
 told (Open (q ∷ rest)) lines = Bad (lines + 1) 0 2
 told (Failed line sub cause) lines = Bad line sub cause
 
--- the lines that are checked, the failing one among them
-abbrev pub counted : Progress → ℕ → ℕ
-counted (Open goals) lines = lines
-counted (Failed line sub cause) lines = line
-
 -- what is said of a certificate of the goal by a library
 abbrev pub verdict : Library → ℕ → Sequent → Cert → Verdict
 verdict library before q cert = told (after library before q cert (length cert.lines)) (length cert.lines)
 
--- how many lines of a certificate are checked
+-- how many arithmetic lines a line checks at the goal on top
+abbrev pub arithmetic : List Sequent → CertLine → ℕ
+arithmetic [] l = 0
+arithmetic (q ∷ rest) (line.Lin lines) = checked_of (length lines) (lines_fault q.left q.right lines)
+arithmetic (q ∷ rest) _ = 0
+
+-- how many lines are checked from here on, rule lines and arithmetic lines, the failing ones among them
+abbrev pub spent : Library → ℕ → Progress → List CertLine → ℕ → ℕ
+spent library before (Failed line sub cause) ls n = 0
+spent library before (Open goals) [] n = 0
+spent library before (Open goals) (l ∷ ls) n = 1 + arithmetic goals l + spent library before (step library before (Open goals) l n) ls (n + 1)
+
+-- how many lines of a certificate of the goal are checked
 abbrev pub checked : Library → ℕ → Sequent → Cert → ℕ
-checked library before q cert = counted (after library before q cert (length cert.lines)) (length cert.lines)
+checked library before q cert = spent library before (Open (q ∷ [])) cert.lines 1
+
+-- fewer arithmetic lines than a number of 32 bits can count
+abbrev pub IsShort : CertLine → Type 0
+IsShort l = arithmetic_lines l < 4294967295
+
+-- fewer lines than a number of 32 bits can count, and in each as few arithmetic lines
+pub record IsCounted (cert : Cert) : Type 0 where
+  pub lines : length cert.lines < 4294967295
+  pub each : Each IsShort cert.lines

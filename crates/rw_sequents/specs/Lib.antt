@@ -1,2 +1,4 @@
+pub mod Counting
+pub mod Refuted
 pub mod Rules
 pub mod After

@@ -8,6 +8,7 @@ use Rattle.rw_goals.specs.Premises.{Effect, at_left, at_right}
 use Rattle.rw_goals.specs.Closing.{closed_by}
 use Rattle.rw_goals.specs.Connectives.{left_rule, right_rule}
 use Rattle.rw_goals.specs.Cut.{cut, leave_out}
+use Rattle.rw_sequents.specs.Refuted.{refuted_by}
 use Rattle.rw_sequents.specs.declared.line.CertLine.{CertLine}
 use Rattle.rw_sequents.specs.declared.line.CertLine.TheVariants as line
 
@@ -28,3 +29,4 @@ after_line library before q (line.OrL i) = at_left q i (left_rule connective.Or)
 after_line library before q (line.OrR j) = at_right q j (right_rule connective.Or)
 after_line library before q (line.ImpL i) = at_left q i (left_rule connective.Imp)
 after_line library before q (line.ImpR j) = at_right q j (right_rule connective.Imp)
+after_line library before q (line.Lin lines) = refuted_by lines q

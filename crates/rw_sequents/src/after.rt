@@ -1,27 +1,47 @@
 //! What a line does to the goal on top.
 
-ghost use Rattle.std.specs.Prelude.{◌≡◌, IfOk};
+ghost use Rattle.std.specs.Prelude.{◌≡◌, ◌+◌, ◌<◌, [], ◌∷◌, length, IfOk};
+ghost use Rattle.rw_arith.specs.Lines.{lines_fault};
 ghost use Rattle.rw_goals.specs.Premises.{Gives};
+ghost use Rattle.rw_sequents.specs.Refuted.{refuted_by, checked_of};
 ghost use Rattle.rw_sequents.specs.Rules.{after_line};
+ghost use Rattle.rw_sequents.specs.After.{arithmetic, IsShort};
 
 use crate::line::CertLine;
+use rw_arith::check::check_lines;
+use rw_arith::error::LinError;
+use rw_arith::line::LinLine;
 use rw_goals::closing::{Closing, close};
 use rw_goals::connectives::{Connective, take_apart_left, take_apart_right};
 use rw_goals::cut::{cut, drop_left, drop_right};
 use rw_goals::library::Library;
 use rw_goals::outcome::Outcome;
+use rw_steps::Steps;
 use rw_terms::sequent::Sequent;
 use std::alloc::{AllocError, Global};
+use std::sync::ledger::Ledger;
+
+/// An arithmetic line is none.
+const BAD_LINE: u8 = 9;
+
+/// A number passes 128 bits.
+const WIDE: u8 = 10;
+
+/// The last arithmetic line is no contradiction.
+const NO_CONTRADICTION: u8 = 11;
 
 /// Applies a line to a goal, which is changed in place. Lemmas may be cited below the table place `before`; no line cites one yet.
-pub fn apply_line(
+pub fn apply_line<L: Ledger>(
     alloc: Global,
     library: &Library,
     before: u32,
     goal: &mut Sequent,
     line: &CertLine,
+    steps: &mut Steps<L>,
 ) -> Result<Outcome, AllocError>
-    ensures { IfOk result (λ o. Gives o goal.new (after_line library.now before goal.old line.now)) }
+    requires { IsShort line.now }
+    ensures cost { IfOk result (λ _. steps.new ≡ steps.old + arithmetic (goal.old ∷ []) line.now) }
+    ensures effect { IfOk result (λ o. Gives o goal.new (after_line library.now before goal.old line.now)) }
 {
     match line {
         CertLine::Ax => Ok(close(goal, Closing::Common)),
@@ -39,5 +59,32 @@ pub fn apply_line(
         CertLine::OrR(j) => take_apart_right(alloc, goal, Connective::Or, *j),
         CertLine::ImpL(i) => take_apart_left(alloc, goal, Connective::Imp, *i),
         CertLine::ImpR(j) => take_apart_right(alloc, goal, Connective::Imp, *j),
+        CertLine::Lin(lines) => refute(alloc, goal, lines.as_slice(), steps),
+    }
+}
+
+// Arithmetic lines: each that is checked counts one step.
+fn refute<L: Ledger>(
+    alloc: Global,
+    goal: &Sequent,
+    lines: &[LinLine],
+    steps: &mut Steps<L>,
+) -> Result<Outcome, AllocError>
+    requires { length lines.now < 4294967295 }
+    ensures effect { IfOk result (λ o. Gives o goal.now (refuted_by lines.now goal.now)) }
+    ensures cost { IfOk result (λ _. steps.new ≡ steps.old + checked_of (length lines.now) (lines_fault goal.now.left goal.now.right lines.now)) }
+{
+    match check_lines(
+        alloc,
+        goal.left.as_slice(),
+        goal.right.as_slice(),
+        lines,
+        steps,
+    ) {
+        Ok(()) => Ok(Outcome::Closes),
+        Err(LinError::BadLine(line)) => Ok(Outcome::Fails(line, BAD_LINE)),
+        Err(LinError::Wide(line)) => Ok(Outcome::Fails(line, WIDE)),
+        Err(LinError::NotContradiction(line)) => Ok(Outcome::Fails(line, NO_CONTRADICTION)),
+        Err(LinError::Memory) => Err(AllocError),
     }
 }

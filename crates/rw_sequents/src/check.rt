@@ -3,7 +3,7 @@
 ghost use Rattle.std.specs.Prelude.{◌≡◌, ℕ, ◌+◌, ◌<◌, length, reverse, ltb, IfOk};
 ghost use Rattle.rw_terms.specs.Validity.{Valid};
 ghost use Rattle.rw_goals.specs.Library.{definitions_of};
-ghost use Rattle.rw_sequents.specs.After.{Open, step, progress, capped, verdict, checked};
+ghost use Rattle.rw_sequents.specs.After.{Open, step, progress, capped, verdict, checked, arithmetic, IsShort, IsCounted};
 
 use crate::after::apply_line;
 use crate::error::CheckError;
@@ -30,7 +30,7 @@ pub struct Fault {
 }
 
 /// Whether the certificate closes the goal, and else the first line that fails with its cause. One step is counted for each line
-/// that is checked, the failing one among them. Lemmas of the library may be cited below the table place `before`, counted from 0;
+/// and each arithmetic line that is checked, the failing ones among them. Lemmas of the library may be cited below the table place `before`, counted from 0;
 /// no line that is built cites one.
 pub fn check<L: Ledger>(
     alloc: Global,
@@ -40,7 +40,7 @@ pub fn check<L: Ledger>(
     cert: &Cert,
     steps: &mut Steps<L>,
 ) -> Result<Verdict, CheckError>
-    requires { length cert.now.lines < 4294967295 }
+    requires { IsCounted cert.now }
     ensures verdict { IfOk result (λ v. v ≡ verdict library.now before goal.now cert.now) }
     ensures valid { IfOk result (λ v. v ≡ Verdict.Good → Valid (definitions_of library.now) goal.now) }
     ensures cost { IfOk result (λ _. steps.new ≡ steps.old + checked library.now before goal.now cert.now) }
@@ -50,7 +50,7 @@ pub fn check<L: Ledger>(
     let mut line = 1;
     for rule in cert.lines.as_slice() {
         steps.tick();
-        if let Some(fault) = advance(alloc, library, before, &mut goals, rule)? {
+        if let Some(fault) = advance(alloc, library, before, &mut goals, rule, steps)? {
             return Ok(Verdict::Bad {
                 line,
                 sub: fault.sub,
@@ -71,14 +71,17 @@ pub fn check<L: Ledger>(
 }
 
 // Applies a line to the top goal, which is the last of the list.
-fn advance(
+fn advance<L: Ledger>(
     alloc: Global,
     library: &Library,
     before: u32,
     goals: &mut Items<Sequent>,
     rule: &CertLine,
+    steps: &mut Steps<L>,
 ) -> Result<Option<Fault>, AllocError>
-    ensures { IfOk result (λ fault. (n : ℕ) → step library.now before (Open (reverse goals.old)) rule.now n ≡ progress fault (reverse goals.new) n) }
+    requires { IsShort rule.now }
+    ensures cost { IfOk result (λ _. steps.new ≡ steps.old + arithmetic (reverse goals.old) rule.now) }
+    ensures goals { IfOk result (λ fault. (n : ℕ) → step library.now before (Open (reverse goals.old)) rule.now n ≡ progress fault (reverse goals.new) n) }
 {
     let mut top = match goals.pop() {
         Some(top) => top,
@@ -87,7 +90,7 @@ fn advance(
             cause: NO_GOAL,
         })),
     };
-    match apply_line(alloc, library, before, &mut top, rule)? {
+    match apply_line(alloc, library, before, &mut top, rule, steps)? {
         Outcome::Fails(sub, cause) => Ok(Some(Fault { sub, cause })),
         Outcome::Closes => Ok(too_many(goals)),
         Outcome::One => {

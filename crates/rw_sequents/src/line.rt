@@ -1,13 +1,15 @@
 //! The lines of a certificate, and what is said of it.
 
-ghost use Rattle.std.specs.Prelude.{◌≡◌, IfOk};
+ghost use Rattle.std.specs.Prelude.{◌≡◌, nat_le, IfOk};
+ghost use Rattle.rw_sequents.specs.Counting.{arithmetic_lines, line_count};
 
+use rw_arith::line::LinLine;
 use rw_items::Items;
 use rw_terms::term::Formula;
 use std::alloc::{AllocError, Global};
 
 /// A line of a certificate: a rule with its arguments, in their order. Formulas are numbered from 1. A variant comes with its rule:
-/// those of quantifiers, equality, arrays, division, definitions, lemmas and arithmetic are not built yet.
+/// those of quantifiers, equality, arrays, division, definitions and lemmas are not built yet.
 #[derive(Drop)]
 pub enum CertLine {
     /// Some left formula is the same as some right one.
@@ -30,9 +32,20 @@ pub enum CertLine {
     OrR(u32),
     ImpL(u32),
     ImpR(u32),
+    /// Arithmetic lines, of which the last is a contradiction.
+    Lin(Items<LinLine>),
 }
 
 impl CertLine {
+    fn arithmetic_lines(&self) -> usize
+        ensures { result ≡ arithmetic_lines self.now }
+    {
+        match self {
+            CertLine::Lin(lines) => lines.len(),
+            _ => 0,
+        }
+    }
+
     /// The same line again.
     pub fn copy(&self, alloc: Global) -> Result<CertLine, AllocError>
         ensures { IfOk result (λ l. l ≡ self.now) }
@@ -53,8 +66,19 @@ impl CertLine {
             CertLine::OrR(j) => Ok(CertLine::OrR(*j)),
             CertLine::ImpL(i) => Ok(CertLine::ImpL(*i)),
             CertLine::ImpR(j) => Ok(CertLine::ImpR(*j)),
+            CertLine::Lin(lines) => Ok(CertLine::Lin(copied(alloc, lines.as_slice())?)),
         }
     }
+}
+
+fn copied(alloc: Global, lines: &[LinLine]) -> Result<Items<LinLine>, AllocError>
+    ensures { IfOk result (λ copies. copies ≡ lines.now) }
+{
+    let mut copies = Items::new(alloc);
+    for line in lines {
+        copies.push(line.copy(alloc)?)?;
+    }
+    Ok(copies)
 }
 
 /// What is to show that a sequent is valid.
@@ -73,6 +97,23 @@ impl Cert {
             lines.push(line.copy(alloc)?)?;
         }
         Ok(Cert { lines })
+    }
+}
+
+impl Cert {
+    /// Whether it has at most so many lines, rule lines and arithmetic lines. It takes no memory.
+    pub fn has_at_most(&self, most: u32) -> bool
+        ensures { result ≡ nat_le (line_count self.now.lines) most }
+    {
+        let mut left = most;
+        for line in self.lines.as_slice() {
+            let more = line.arithmetic_lines();
+            if more >= left as usize {
+                return false;
+            }
+            left -= 1 + more as u32;
+        }
+        true
     }
 }
 

@@ -231,7 +231,7 @@ fn counted<L: Ledger>(
     requires some { 0 < L.parts }
 {
     let mut steps = Steps::<L>::new(blank);
-    if cert.lines.len() > 100 {
+    if !cert.has_at_most(100) {
         return Ok(Verdict::Good);
     }
     Ok(check(alloc, library, 0, goal, cert, &mut steps)?)

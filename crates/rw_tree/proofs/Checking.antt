@@ -12,6 +12,7 @@ use Rattle.rw_tree.specs.declared.parts.Parts.{Parts}
 use Rattle.std.specs.Prelude.{not, nat_le}
 use Rattle.std.specs.List.{list_all}
 use Rattle.rw_faults.specs.Limits.{is_light, is_shallow}
+use Rattle.rw_sequents.specs.Counting.{line_count}
 use Rattle.rw_tree.specs.Edits.{cert_at, cert_set, cert_dropped, behind, is_node, obligations_of}
 use Rattle.rw_tree.specs.Refusals.{has_obligation, passes, cert_limit, IsGood}
 use Rattle.rw_tree.specs.Anew.{main_context, judged, root_judged, root_mark, root_place}
@@ -23,15 +24,15 @@ not_taken true o r e = e
 not_taken false o r e = absurd (cc)
 
 -- what passes no limit has few lines
-short_told : (a b : Bool) (c : Cert) → (if a then Some (refusal.Limit which.Weight 1024) else if b then Some (refusal.Limit which.Depth 64) else if nat_le (length c.lines) 4096 then None else Some (refusal.Limit which.Lines 4096)) ≡ None → length c.lines ≤ 4096
+short_told : (a b : Bool) (c : Cert) → (if a then Some (refusal.Limit which.Weight 1024) else if b then Some (refusal.Limit which.Depth 64) else if nat_le (line_count c.lines) 4096 then None else Some (refusal.Limit which.Lines 4096)) ≡ None → line_count c.lines ≤ 4096
 short_told true b c e = absurd (cc)
 short_told false true c e = absurd (cc)
-short_told false false c e = elim (leb_tells (length c.lines) 4096) [
+short_told false false c e = elim (leb_tells (line_count c.lines) 4096) [
   | inl h ↦ h.1
   | inr h ↦ absurd (let f : Some (refusal.Limit which.Lines 4096) ≡ None = rw h.0 at e in cc)
 ]
 
-is_short : (c : Cert) → cert_limit c ≡ None → length c.lines ≤ 4096
+is_short : (c : Cert) → cert_limit c ≡ None → line_count c.lines ≤ 4096
 is_short c e = short_told (not (list_all (passes is_light) c.lines)) (not (list_all (passes is_shallow) c.lines)) c e
 
 kept : (b : Bool) (old : Option Cert) (c : Cert) → unwrap_or (if b then Some None else None) old ≡ Some c → old ≡ Some c
@@ -42,13 +43,13 @@ step_keeps : (s : Step) (p : List ℕ) (k : ℕ) (old : Option Cert) (c : Cert) 
 step_keeps s [] k old c e = kept (nat_lt (obligations_of s) k) old c e
 step_keeps s (j ∷ p) k old c e = e
 
-set_or_kept : (b : Bool) (d : Cert) (p : List ℕ) (old : Option Cert) (c : Cert) → length d.lines ≤ 4096 → (old ≡ Some c → length c.lines ≤ 4096) →
-    unwrap_or (if b then cert_set d (behind p []) else None) old ≡ Some c → length c.lines ≤ 4096
-set_or_kept true d [] old c short before e = let same : d ≡ c = cc in subst (λ c. length c.lines ≤ 4096) same short
+set_or_kept : (b : Bool) (d : Cert) (p : List ℕ) (old : Option Cert) (c : Cert) → line_count d.lines ≤ 4096 → (old ≡ Some c → line_count c.lines ≤ 4096) →
+    unwrap_or (if b then cert_set d (behind p []) else None) old ≡ Some c → line_count c.lines ≤ 4096
+set_or_kept true d [] old c short before e = let same : d ≡ c = cc in subst (λ c. line_count c.lines ≤ 4096) same short
 set_or_kept true d (j ∷ p) old c short before e = before e
 set_or_kept false d p old c short before e = before e
 
-few_lines : (l : List Edit) → IsGood l → (k : ℕ) (c : Cert) → cert_at l [] k ≡ Some c → length c.lines ≤ 4096
+few_lines : (l : List Edit) → IsGood l → (k : ℕ) (c : Cert) → cert_at l [] k ≡ Some c → line_count c.lines ≤ 4096
 few_lines [] good k c e = absurd (cc)
 few_lines (edit.Var x ∷ l) good k c e = few_lines l good.0 k c e
 few_lines (edit.Root w ∷ l) good k c e = few_lines l good.0 k c e

@@ -14,6 +14,7 @@ use Rattle.rw_tree.specs.Edits.{globals_of, root_of, step_at, cert_at, obligatio
 use Rattle.rw_tree.specs.declared.status.NodeMark.{NodeMark}
 use Rattle.rw_tree.specs.declared.status.Judgement.{Judgement}
 use Rattle.rw_tree.specs.Anew.{main_context, judged, root_place}
+use Rattle.rw_sequents.specs.Counting.{line_count}
 use Rattle.rw_tree.specs.Refusals.{or_refusal, var_refusal, root_refusal, cert_limit}
 
 -- the certificate of the obligation of this number, from 1
@@ -78,4 +79,4 @@ mark_in parts = record { place = root_place; status = (judged_in parts).status; 
 
 -- no certificate has more than 4096 lines
 abbrev pub HasFewLines : List (Option Cert) → Type 0
-HasFewLines certs = (k : ℕ) (c : Cert) → numbered certs k ≡ Some c → length c.lines ≤ 4096
+HasFewLines certs = (k : ℕ) (c : Cert) → numbered certs k ≡ Some c → line_count c.lines ≤ 4096

@@ -11,6 +11,7 @@ use Rattle.std.specs.List.{list_all}
 use Rattle.rw_sequents.specs.declared.line.Cert.{Cert}
 use Rattle.rw_sequents.specs.declared.line.CertLine.{CertLine}
 use Rattle.rw_sequents.specs.declared.line.CertLine.TheVariants as line
+use Rattle.rw_sequents.specs.Counting.{line_count}
 use Rattle.rw_tree.specs.declared.edit.Place.{Place}
 use Rattle.rw_tree.specs.declared.edit.Edit.{Edit}
 use Rattle.rw_tree.specs.declared.edit.Edit.TheVariants as edit
@@ -82,12 +83,13 @@ abbrev pub passes : (Formula → Bool) → CertLine → Bool
 passes test (line.Cut f) = test f
 passes test _ = true
 
--- the first limit that a certificate passes: the weight and the depth of each formula in it, and 4096 lines
+-- the first limit that a certificate passes: the weight and the depth of each formula in it, and 4096 lines, rule lines and
+-- arithmetic lines
 abbrev pub cert_limit : Cert → Option EditRefusal
 cert_limit c =
     if not (list_all (passes is_light) c.lines) then Some (refusal.Limit which.Weight 1024)
     else if not (list_all (passes is_shallow) c.lines) then Some (refusal.Limit which.Depth 64)
-    else if nat_le (length c.lines) 4096 then None
+    else if nat_le (line_count c.lines) 4096 then None
     else Some (refusal.Limit which.Lines 4096)
 
 -- the first test that refuses the edit after the list, if one does

@@ -3,6 +3,7 @@
 ghost use Rattle.std.specs.Prelude.{◌≡◌, ◌≤◌, ◌<◌, ◌+◌, ◌⊎◌, ℕ, List, [], IfOk, IfErr, option_copied, length};
 ghost use Rattle.rw_skip.specs.Laws.{FitsWith, MisfitsBy};
 ghost use Rattle.rw_sequents.specs.declared.line.Cert.{Cert};
+ghost use Rattle.rw_sequents.specs.Counting.{line_count};
 ghost use Rattle.rw_tree.specs.declared.edit.Edit.{Edit};
 ghost use Rattle.rw_tree.specs.Refusals.{IsGood};
 ghost use Rattle.rw_tree.specs.Anew.{anew, main_context, root_place, law_at, no_library, state_of, needs_from, judged_step, pending_from};
@@ -200,7 +201,7 @@ fn state_of<L: Ledger>(
     cert: Option<&Cert>,
     steps: &mut Steps<L>,
 ) -> Result<NeedState, TreeError>
-    requires { (c : Cert) → option_copied cert ≡ Some c → length c.lines ≤ 4096 }
+    requires { (c : Cert) → option_copied cert ≡ Some c → line_count c.lines ≤ 4096 }
     ensures { IfOk result (λ state. state ≡ state_of sequent.now (option_copied cert.entry)) }
 {
     match cert {

@@ -12,7 +12,8 @@ use rw_terms::sorts::{MOST_DEPTH, MOST_PARTS};
 
 const MOST_LINES: u32 = 4096;
 
-/// The first limit that the certificate passes: the weight and the depth of each formula in it, and the number of its lines.
+/// The first limit that the certificate passes: the weight and the depth of each formula in it, and the number of its lines,
+/// rule lines and arithmetic lines.
 pub fn cert_limit(cert: &Cert) -> Option<EditRefusal>
     ensures { result ≡ cert_limit cert.now }
 {
@@ -22,7 +23,7 @@ pub fn cert_limit(cert: &Cert) -> Option<EditRefusal>
     if !are_shallow(cert.lines.as_slice()) {
         return Some(EditRefusal::Limit(Which::Depth, MOST_DEPTH));
     }
-    if cert.lines.len() <= MOST_LINES as usize {
+    if cert.has_at_most(MOST_LINES) {
         None
     } else {
         Some(EditRefusal::Limit(Which::Lines, MOST_LINES))

@@ -1,0 +1,28 @@
+-- Arithmetic lines as a line of a certificate.
+use Rattle.std.specs.Prelude.{ℕ, List, [], length, Option, Some, None}
+use Rattle.rw_terms.specs.declared.sequent.Sequent.{Sequent}
+use Rattle.rw_arith.specs.declared.line.LinLine.{LinLine}
+use Rattle.rw_arith.specs.declared.error.LinError.{LinError}
+use Rattle.rw_arith.specs.declared.error.LinError.TheVariants as fault
+use Rattle.rw_arith.specs.Lines.{lines_fault}
+use Rattle.rw_goals.specs.Premises.{Effect, Fails, Premises}
+
+-- lines that refute close the goal; else it fails at the arithmetic line by its cause (want of memory is no fault of lines)
+abbrev pub by_fault : Option LinError → Effect
+by_fault None = Premises []
+by_fault (Some (fault.BadLine k)) = Fails k 9
+by_fault (Some (fault.Wide k)) = Fails k 10
+by_fault (Some (fault.NotContradiction k)) = Fails k 11
+by_fault (Some fault.Memory) = Fails 0 0
+
+-- the lines refute that the left formulas of the goal are true and the right ones false
+abbrev pub refuted_by : List LinLine → Sequent → Effect
+refuted_by lines q = by_fault (lines_fault q.left q.right lines)
+
+-- how many of so many lines are checked, the failing one among them
+abbrev pub checked_of : ℕ → Option LinError → ℕ
+checked_of n None = n
+checked_of n (Some (fault.BadLine k)) = k
+checked_of n (Some (fault.Wide k)) = k
+checked_of n (Some (fault.NotContradiction k)) = n
+checked_of n (Some fault.Memory) = n
