@@ -8,8 +8,11 @@ pub mod Shorter
 pub mod Classes
 pub mod Expressions
 pub mod Plain
+pub mod Keeping
+pub mod KeepingRules
 pub mod Requests
 pub mod Values
 pub mod Listing
 pub mod Made
 pub mod ListItems
+pub mod Choosing

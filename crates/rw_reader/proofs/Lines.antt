@@ -6,7 +6,8 @@ use Rattle.rw_reader.specs.declared.request.Request.{Request}
 use Rattle.rw_reader.specs.Tokens.{Token, skip, token_at, front_token, with_next, LeadsTo}
 use Rattle.rw_reader.specs.declared.request.ReadError.{ReadError}
 use Rattle.rw_reader.specs.declared.request.ReadError.TheVariants.{Syntax, Memory}
-use Rattle.rw_reader.specs.Forms.{Given, a_request, Form, IsOf, request_form}
+use Rattle.rw_reader.specs.Forms.{Given, a_request, Form, IsOf}
+use Rattle.rw_reader.specs.Requests.{request_form}
 use Rattle.rw_reader.specs.Progress.{Answers}
 use Rattle.rw_reader.specs.Reading.{Spells, CanGoOn, LineSpells, IsFault, Ending, whole, stops, read_form, Reading, reads, fault, asked, told, reading}
 use Rattle.rw_reader.proofs.Grammar.{some_is}

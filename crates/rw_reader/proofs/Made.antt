@@ -8,7 +8,8 @@ use Rattle.rw_tree.specs.declared.edit.Place.{Place}
 use Rattle.rw_tree.specs.declared.edit.Step.TheVariants as steps
 use Rattle.rw_tree.specs.declared.edit.Edit.TheVariants as edits
 use Rattle.rw_reader.specs.declared.request.Request.TheVariants as requests
-use Rattle.rw_reader.specs.Forms.{a_request, main_tree}
+use Rattle.rw_reader.specs.Forms.{a_request}
+use Rattle.rw_reader.specs.Phrases.{main_tree}
 use Rattle.rw_reader.specs.Reading.{whole}
 
 pub made_root : (s r : Spec) → r ≡ s → whole (a_request (requests.Edit (edits.Root s))) ≡ whole (a_request (requests.Edit (edits.Root r)))

@@ -1,6 +1,6 @@
 -- One token of a form, read from a place on.
 use Rattle.std.proofs.Common.{◌≡◌, ℕ, ◌<◌, ◌≤◌, arith, length-drop, Bool, true, false, cond, List, [], ◌∷◌, length, drop, Option, Some, None, IsTrue, refl, sym, ap, ◌∙◌, subst}
-use Rattle.std.specs.Prelude.{◌&&◌, option_map}
+use Rattle.std.specs.Prelude.{◌&&◌, option_map, Result, Ok, Err}
 use Rattle.rw_terms.specs.Names.{is_name}
 use Rattle.std.proofs.lemmas.List.{drop_all}
 use Rattle.rw_reader.specs.declared.request.ReadError.{ReadError}
@@ -9,7 +9,7 @@ use Rattle.rw_reader.specs.Tokens.{Token, token_at}
 use Rattle.rw_reader.specs.Forms.{Slot, Filled, filled, is_text, is_lower, is_variable, Given, Form, gives, takes, either}
 use Rattle.rw_reader.specs.Reading.{after, Ending, whole, stops, ended, token_read, read_within, read_form}
 use Rattle.rw_reader.proofs.Endings.{same_token, open_form, one_token, stuck_form, alike}
-use Rattle.rw_reader.specs.Progress.{IsPlace, StopsAt}
+use Rattle.rw_reader.specs.Progress.{IsPlace, StopsAt, Took}
 
 pub none_stops : (s : Slot) (here : List ℕ) → token_at here ≡ None → (k : Filled s → Form) → read_form (takes s k) here ≡ stops here
 none_stops s here e k = stuck_form (takes s k) here (λ z. refl) (λ t there z. absurd (cc (e, z)))
@@ -78,3 +78,12 @@ stops_end line at e is within h v = subst (λ x. StopsAt line x (read_form (give
 -- an ending that another is
 pub carried : (line : List ℕ) (e : ReadError) {a b : Ending} → a ≡ b → StopsAt line e b → StopsAt line e a
 carried line e same s = subst (StopsAt line e) (sym same) s
+
+-- what a part reads, where it goes on as another does from a later place
+pub passed_on : {A : Type 0} (part other : (A → Form) → Form) (line : List ℕ) (at mid next : ℕ) (r : Result A ReadError) → ((k : A → Form) → read_form (part k) (drop at line) ≡ read_form (other k) (drop mid line)) → Took other line mid next r → Took part line at next r
+passed_on part other line at mid next (Ok x) e t = (t.0, λ k. e k ∙ t.1 k)
+passed_on part other line at mid next (Err x) e t = λ k. carried line x (e k) (t k)
+
+-- what is given is told by another name
+pub told_as : {A : Type 0} (here there : List ℕ) (f : Form) (k : A → Form) (x y : A) → x ≡ y → read_form f here ≡ read_form (k x) there → read_form f here ≡ read_form (k y) there
+told_as here there f k x y e p = p ∙ ap (λ z. read_form (k z) there) e

@@ -1,26 +1,18 @@
 -- The grammar of requests: a request is of a form, which says what stands where. A new request is a new form.
-use Rattle.std.specs.Prelude.{◌≡◌, ℕ, zero, suc, ◌+◌, Bool, false, ◌&&◌, cond, leb, List, [], ◌∷◌, ◌++◌, length, map, take, Option, Some, None, IsTrue, codes, bytes_eq, ◌⊎◌}
-use Rattle.rw_terms.specs.Names.{is_name}
-use Rattle.rw_terms.specs.declared.term.Sort.{Sort}
-use Rattle.rw_terms.specs.declared.term.Sort.TheVariants as sorts
-use Rattle.rw_terms.specs.declared.term.Formula.{Formula}
-use Rattle.rw_programs.specs.declared.prog.Spec.{Spec}
+use Rattle.std.specs.Prelude.{◌≡◌, ℕ, zero, suc, ◌+◌, Bool, false, ◌&&◌, cond, leb, eqb, List, [], ◌∷◌, ◌++◌, length, take, Option, Some, None, option_map, option_and_then, IsTrue, bytes_eq, ◌⊎◌}
+use Rattle.std.specs.List.{list_all}
+use Rattle.rw_terms.specs.Names.{is_name, is_digit}
+use Rattle.rw_arith.specs.declared.line.Ref.{Ref}
+use Rattle.rw_arith.specs.declared.line.Ref.TheVariants as refs
+use Rattle.rw_arith.specs.declared.line.Part.{Part as SumPart}
+use Rattle.rw_arith.specs.declared.line.LinLine.{LinLine}
 use Rattle.rw_sequents.specs.declared.line.CertLine.{CertLine}
-use Rattle.rw_sequents.specs.declared.line.CertLine.TheVariants as lines
-use Rattle.rw_reader.specs.declared.certificate.Numbered.{Numbered}
-use Rattle.rw_reader.specs.declared.certificate.Numbered.TheVariants as rules
-use Rattle.rw_skip.specs.declared.step.BasicStep.TheVariants as laws
-use Rattle.rw_tree.specs.declared.edit.TreeName.TheVariants as trees
-use Rattle.rw_tree.specs.declared.edit.Place.{Place}
-use Rattle.rw_tree.specs.declared.edit.Step.TheVariants as steps
-use Rattle.rw_tree.specs.declared.edit.Edit.TheVariants as edits
 use Rattle.rw_syntax.specs.declared.token.Token.{Token as Class}
 use Rattle.rw_syntax.specs.declared.frame.Part.{Part}
-use Rattle.rw_syntax.specs.Grammar.{Tree, level, fits, IsFormed, part, nests, as_formula, text as tree_text}
+use Rattle.rw_syntax.specs.Grammar.{Tree, level, fits, IsFormed, part, nests, text as tree_text}
 use Rattle.rw_syntax.specs.Spelling.{AreWithin}
 use Rattle.rw_reader.specs.declared.request.Request.{Request}
-use Rattle.rw_reader.specs.declared.request.Request.TheVariants as requests
-use Rattle.rw_reader.specs.Tokens.{Token, text, number, binder}
+use Rattle.rw_reader.specs.Tokens.{Token, text, number, binder, number_of}
 use Rattle.rw_reader.specs.Classes.{AreClasses}
 
 -- what one token may be
@@ -31,12 +23,15 @@ pub data Slot : Type 0 where
   a_variable : Slot
   -- a number from the one to the other
   a_number : ℕ → ℕ → Slot
+  -- `L` or `R` and the number of a formula, as one word, or the number of a line
+  a_reference : Slot
 
 -- what a slot's token says
 abbrev pub Filled : Slot → Type 0
 Filled (exactly w) = Unit {0}
 Filled a_variable = List ℕ
 Filled (a_number least most) = ℕ
+Filled a_reference = Ref
 
 abbrev pub is_lower : List ℕ → Bool
 is_lower [] = false
@@ -62,17 +57,39 @@ number_within least most (text w) = None
 number_within least most (number n) = cond (leb least n && leb n most) (Some n) None
 number_within least most (binder n) = None
 
+-- a number of a formula or a line, where it is not too great
+abbrev pub counted : ℕ → Option ℕ
+counted n = cond (leb n 4294967295) (Some n) None
+
+-- the number that digits alone write
+abbrev pub digits_number : List ℕ → Option ℕ
+digits_number [] = None
+digits_number (d ∷ ds) = cond (list_all is_digit (d ∷ ds)) (option_and_then counted (number_of (d ∷ ds))) None
+
+-- the formula that a letter for its side and its number name
+abbrev pub formula_named : List ℕ → Option Ref
+formula_named [] = None
+formula_named (b ∷ bs) = cond (eqb b 76) (option_map refs.Left (digits_number bs)) (cond (eqb b 82) (option_map refs.Right (digits_number bs)) None)
+
+abbrev pub reference_of : Token → Option Ref
+reference_of (text w) = formula_named w
+reference_of (number n) = option_map refs.Line (counted n)
+reference_of (binder n) = None
+
 -- what a token in a slot says, where it may stand there
 abbrev pub filled : (s : Slot) → Token → Option (Filled s)
 filled (exactly w) t = cond (is_text w t) (Some tt) None
 filled a_variable t = variable_of t
 filled (a_number least most) t = number_within least most t
+filled a_reference t = reference_of t
 
 -- what a form gives: a request, or an item of a list
 pub data Given : Type 0 where
   a_request : Request → Given
   a_name : List ℕ → Given
   a_line : CertLine → Given
+  a_part : SumPart → Given
+  a_sum : LinLine → Given
 
 -- what is still to be read, and what is given then
 pub data Form : Type 0 where
@@ -155,111 +172,3 @@ IsOf (takes s k) n ts v = Follows s (λ x. IsOf (k x)) n ts v
 IsOf (either w f g) n ts v = ((rest : List Token) × (ts ≡ text w ∷ rest) × IsOf f (fewer n) rest v) ⊎ IsOf g n ts v
 IsOf (rest_of most goal done k) n ts v = Spans most goal done (λ w. IsOf (k w)) n ts v
 IsOf (more_of item sep done k) n ts v = Lists (IsOf item) sep (λ gs. IsOf (k (done ++ gs))) n ts v
-
--- a word or a symbol, and what is to follow it
-abbrev pub mark : List ℕ → Form → Form
-mark w f = takes (exactly w) (λ _. f)
-
--- `int`, or `array` and a length
-unfoldable pub sort : (Sort → Form) → Form
-sort k = either (codes "int") (k sorts.Int) (mark (codes "array") (takes (a_number 1 1024) (λ n. k (sorts.Array n))))
-
--- a formula whose own nest is within `most`
-unfoldable pub formula : ℕ → (Formula → Form) → Form
-formula most k = rest_of most 1 [] (λ v. k (as_formula v))
-
--- a variable as an item
-unfoldable pub name_form : Form
-name_form = takes a_variable (λ x. gives (a_name x))
-
-abbrev pub name_in : Given → List ℕ
-name_in (a_request r) = []
-name_in (a_name x) = x
-name_in (a_line l) = []
-
--- NAME { , NAME }
-unfoldable pub names : (List (List ℕ) → Form) → Form
-names k = many name_form (codes ",") (λ gs. k (map name_in gs))
-
--- a frame and a colon; an empty frame is written as nothing
-unfoldable pub frame : (List (List ℕ) → Form) → Form
-frame k = either (codes ":") (k []) (names (λ xs. mark (codes ":") (k xs)))
-
--- [ FORM , FORM ] behind a frame
-abbrev pub bracketed : List (List ℕ) → (Spec → Form) → Form
-bracketed xs k = mark (codes "[") (formula 511 (λ f. mark (codes ",") (formula 511 (λ g. mark (codes "]") (k (record { frame = xs; pre = f; post = g }))))))
-
--- FRAME [ FORM , FORM ]
-unfoldable pub spec : (Spec → Form) → Form
-spec k = frame (λ xs. bracketed xs k)
-
-abbrev pub main_tree : Place
-main_tree = record { tree = trees.Main; path = record { kids = [] } }
-
--- NAME : SORT
-unfoldable pub var_form : Form
-var_form = takes a_variable (λ x. mark (codes ":") (sort (λ s. gives (a_request (requests.Edit (edits.Var (record { name = x; sort = s })))))))
-
--- SPEC
-unfoldable pub root_form : Form
-root_form = spec (λ s. gives (a_request (requests.Edit (edits.Root s))))
-
--- main skip
-unfoldable pub step_form : Form
-step_form = mark (codes "main") (mark (codes "skip") (gives (a_request (requests.Edit (edits.Step main_tree (steps.Basic laws.Skip))))))
-
--- the line of a rule that names a formula by its number
-abbrev pub with_number : Numbered → ℕ → CertLine
-with_number rules.DropL n = lines.DropL n
-with_number rules.DropR n = lines.DropR n
-with_number rules.NotL n = lines.NotL n
-with_number rules.NotR n = lines.NotR n
-with_number rules.AndL n = lines.AndL n
-with_number rules.AndR n = lines.AndR n
-with_number rules.OrL n = lines.OrL n
-with_number rules.OrR n = lines.OrR n
-with_number rules.ImpL n = lines.ImpL n
-with_number rules.ImpR n = lines.ImpR n
-
--- the last of the rules that name a formula
-unfoldable pub later_rules : (Numbered → Form) → Form
-later_rules k = either (codes "orL") (k rules.OrL) (either (codes "orR") (k rules.OrR) (either (codes "impL") (k rules.ImpL) (mark (codes "impR") (k rules.ImpR))))
-
--- the rules that name a formula
-unfoldable pub numbered_rules : (Numbered → Form) → Form
-numbered_rules k = either (codes "dropL") (k rules.DropL) (either (codes "dropR") (k rules.DropR) (either (codes "notL") (k rules.NotL) (either (codes "notR") (k rules.NotR) (either (codes "andL") (k rules.AndL) (either (codes "andR") (k rules.AndR) (later_rules k))))))
-
--- such a rule and the number
-unfoldable pub numbered : (CertLine → Form) → Form
-numbered k = numbered_rules (λ r. takes (a_number 0 4294967295) (λ n. k (with_number r n)))
-
--- the formula of a cut
-unfoldable pub cut : (CertLine → Form) → Form
-cut k = formula 512 (λ f. k (lines.Cut f))
-
--- a rule and its arguments
-unfoldable pub rule : (CertLine → Form) → Form
-rule k =
-    either (codes "ax") (k lines.Ax) (either (codes "falseL") (k lines.FalseL) (either (codes "trueR") (k lines.TrueR)
-    (either (codes "refl") (k lines.Refl) (either (codes "cut") (cut k) (numbered k)))))
-
--- a line of a certificate as an item
-unfoldable pub line_form : Form
-line_form = rule (λ l. gives (a_line l))
-
-abbrev pub line_in : Given → CertLine
-line_in (a_request r) = lines.Ax
-line_in (a_name x) = lines.Ax
-line_in (a_line l) = l
-
--- LINE { ; LINE }
-unfoldable pub cert : (List CertLine → Form) → Form
-cert k = many line_form (codes ";") (λ gs. k (map line_in gs))
-
--- main NUMBER CERT
-unfoldable pub prove_form : Form
-prove_form = mark (codes "main") (takes (a_number 0 4294967295) (λ n. cert (λ ls. gives (a_request (requests.Edit (edits.Prove main_tree n (record { lines = ls })))))))
-
--- every request
-unfoldable pub request_form : Form
-request_form = either (codes "var") var_form (either (codes "root") root_form (either (codes "step") step_form (either (codes "prove") prove_form (mark (codes "status") (gives (a_request requests.Status))))))

@@ -6,3 +6,6 @@ pub mod Progress
 pub mod Classes
 pub mod Expressions
 pub mod Turns
+pub mod Phrases
+pub mod Certificates
+pub mod Requests

@@ -8,7 +8,8 @@ use Rattle.rw_syntax.specs.Stops.{stops_at}
 use Rattle.rw_reader.specs.declared.request.Request.{Request}
 use Rattle.rw_reader.specs.Tokens.{Token, skip, token_at, LeadsTo}
 use Rattle.rw_reader.specs.Classes.{class_of}
-use Rattle.rw_reader.specs.Forms.{filled, is_text, Given, a_request, a_name, a_line, Form, gives, takes, either, rest_of, more_of, followed, IsOf, request_form}
+use Rattle.rw_reader.specs.Forms.{filled, is_text, Given, a_request, Form, gives, takes, either, rest_of, more_of, followed, IsOf}
+use Rattle.rw_reader.specs.Requests.{request_form}
 
 -- tokens spell a request, with a nest within 512
 abbrev pub Spells : List Token → Request → Type 0
@@ -110,8 +111,7 @@ pub data Reading : Type 0 where
 
 abbrev pub asked : List ℕ → Given → Reading
 asked here (a_request r) = reads r
-asked here (a_name x) = fault (length here)
-asked here (a_line l) = fault (length here)
+asked here _ = fault (length here)
 
 abbrev pub told : List ℕ → Ending → Reading
 told here (whole v) = asked here v

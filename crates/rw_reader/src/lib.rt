@@ -1,11 +1,13 @@
 //! Reads requests, terms and formulas: exactly the grammar, with the exact offset of a fault.
 #![tactic(auto)]
 
+mod arithmetic;
 pub mod certificate;
 mod class;
 mod expression;
 pub mod laws;
 mod reading;
+mod reference;
 pub mod request;
 mod taking;
 pub mod token;

@@ -1,7 +1,8 @@
 //! Reads a request.
 
 ghost use Rattle.std.specs.Prelude.{◌≡◌, ℕ, ◌<◌, ◌^◌, ◌⊎◌, length, IfOk, IfErr};
-ghost use Rattle.rw_reader.specs.Forms.{main_tree, var_form, root_form, step_form, prove_form};
+ghost use Rattle.rw_reader.specs.Phrases.{main_tree};
+ghost use Rattle.rw_reader.specs.Requests.{var_form, root_form, step_form, prove_form};
 ghost use Rattle.rw_reader.specs.Reading.{reading, reads, fault};
 ghost use Rattle.rw_reader.specs.Progress.{IsPlace, Answers};
 ghost use Rattle.rw_reader.specs.declared.request.ReadError.TheVariants as read_error;
@@ -12,9 +13,9 @@ use crate::taking::{accept, end, expect, number, sort, variable};
 use crate::token::skip;
 use crate::value::spec;
 use rw_items::Items;
-use rw_skip::step::BasicStep;
 use rw_programs::prog::Param;
 use rw_sequents::line::Cert;
+use rw_skip::step::BasicStep;
 use rw_tree::edit::{Edit, Path, Place, Step, TreeName};
 use std::alloc::Global;
 
@@ -137,6 +138,7 @@ mod tests {
                 (b"root x:[x = 1, 2 = x]", None),
                 (b"root x:[true, false]", None),
                 (b"step main skip", None),
+                (b"status x", Some(7)),
                 (b"prove main 4294967295 ax", None),
                 (b"\tstatus\r", None),
                 (b"frob", Some(0)),
@@ -145,7 +147,6 @@ mod tests {
                 (b"prove main 4294967296 ax", Some(11)),
                 (b"prove main 1", Some(12)),
                 (b"step main", Some(9)),
-                (b"status x", Some(7)),
             ],
         )
     }
@@ -209,6 +210,26 @@ mod tests {
                 (b"prove main 1 andL ; ax", Some(18)),
                 (b"prove main 1 andL 4294967296", Some(18)),
                 (b"prove main 1 swapL 1", Some(13)),
+                (
+                    b"prove main 1 allL 1 x + 1 ; exR 2 a[0] ; allR 1 y ; exL 2 y",
+                    None,
+                ),
+                (b"prove main 1 eqR 1 ; flip 2 ; rwL 1 2 ; rwR 1 2", None),
+                (b"prove main 1 putSame a, i, e ; putOther a, i, e, j", None),
+                (b"prove main 1 arrExt a, b ; divMod x, y + 1", None),
+                (b"prove main 1 lin [2*L1 + -1*R2] [1/3] [-1*2] ; ax", None),
+                (b"prove main 1 lin [1*L0] [1/0]", None),
+                (b"prove main 1 allR 1 Y", Some(20)),
+                (b"prove main 1 allR 1 _1", Some(20)),
+                (b"prove main 1 allL x", Some(18)),
+                (b"prove main 1 putSame a, i", Some(25)),
+                (b"prove main 1 lin [1*L 1]", Some(20)),
+                (b"prove main 1 lin [1*x]", Some(20)),
+                (b"prove main 1 lin [L1]", Some(18)),
+                (b"prove main 1 lin [-1/2]", Some(20)),
+                (b"prove main 1 lin [5000000000/2]", Some(28)),
+                (b"prove main 1 lin", Some(16)),
+                (b"prove main 1 lin [1*L1", Some(22)),
                 (b"prove main 1 ax ;", Some(17)),
                 (b"prove main 1 ax , ax", Some(16)),
                 (b"prove main 1 ax ax", Some(16)),

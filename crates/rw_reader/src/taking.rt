@@ -1,13 +1,17 @@
 //! The parts of requests, read from a place on.
 
 ghost use Rattle.std.specs.Prelude.{◌≡◌, ℕ, ◌≤◌, ◌<◌, ◌^◌, length, IfOk, IfSome, IsTrue};
-ghost use Rattle.rw_reader.specs.Forms.{is_text, is_lower, variable_of, number_within, takes, exactly, a_variable, a_number, sort, names};
+ghost use Rattle.rw_reader.specs.Forms.{is_text, is_lower, variable_of, number_within, takes, exactly, a_variable, a_number, a_reference};
+ghost use Rattle.rw_reader.specs.Phrases.{sort, names};
+ghost use Rattle.rw_reader.specs.Certificates.{any_number};
 ghost use Rattle.rw_reader.specs.Seen.{seen};
 ghost use Rattle.rw_reader.specs.Progress.{IsPlace, Took, Chose, Ended};
 ghost use Rattle.rw_reader.specs.declared.request.ReadError.TheVariants as read_error;
 
+use crate::reference::reference_of;
 use crate::request::ReadError;
-use crate::token::{Token, token_at};
+use crate::token::{LARGEST, Token, token_at};
+use rw_arith::line::Ref;
 use rw_items::Items;
 use rw_terms::name::Name;
 use rw_terms::term::Sort;
@@ -43,7 +47,8 @@ pub fn expect(line: &[u8], at: &mut usize, text: &[u8]) -> Result<(), ReadError>
 pub fn accept(line: &[u8], at: &mut usize, text: &[u8]) -> bool
     requires { IsPlace line.now at.old }
     ensures chose { Chose text.now line.now at.old at.new result }
-    ensures on { IsTrue result → at.old < at.new }
+    ensures on { at.old ≤ at.new }
+    ensures further { IsTrue result → at.old < at.new }
 {
     match token_at(line, *at) {
         Some((token, next)) => {
@@ -87,6 +92,43 @@ pub fn number(line: &[u8], at: &mut usize, least: u32, most: u32) -> Result<u32,
             Some(n) => {
                 *at = next;
                 Ok(n)
+            }
+            None => Err(fault(*at)),
+        },
+        None => Err(fault(*at)),
+    }
+}
+
+/// Reads a number of any size.
+pub fn any_number(line: &[u8], at: &mut usize) -> Result<u128, ReadError>
+    requires { IsPlace line.now at.old }
+    ensures within { IfOk result (λ n. n ≤ 170141183460469231731687303715884105727) }
+    ensures took { Took any_number line.now at.old at.new result }
+    ensures on { at.old ≤ at.new }
+{
+    match token_at(line, *at) {
+        Some((token, next)) => match number_of(token) {
+            Some(n) => {
+                *at = next;
+                Ok(n)
+            }
+            None => Err(fault(*at)),
+        },
+        None => Err(fault(*at)),
+    }
+}
+
+/// Reads what a part of a sum names: `L` or `R` and the number of a formula in one word, or the number of a line.
+pub fn reference(line: &[u8], at: &mut usize) -> Result<Ref, ReadError>
+    requires { IsPlace line.now at.old }
+    ensures took { Took (takes a_reference) line.now at.old at.new result }
+    ensures on { at.old ≤ at.new }
+{
+    match token_at(line, *at) {
+        Some((token, next)) => match reference_of(token) {
+            Some(reference) => {
+                *at = next;
+                Ok(reference)
             }
             None => Err(fault(*at)),
         },
@@ -175,6 +217,16 @@ fn number_within(least: u32, most: u32, token: Token) -> Option<u32>
                 None
             }
         }
+        Token::Text(_) | Token::Binder(_) => None,
+    }
+}
+
+fn number_of(token: Token) -> Option<u128>
+    ensures number { result ≡ number_within 0 170141183460469231731687303715884105727 (seen token.entry) }
+    ensures within { IfSome result (λ n. n ≤ 170141183460469231731687303715884105727) }
+{
+    match token {
+        Token::Number(n) => { if n <= LARGEST { Some(n) } else { None } }
         Token::Text(_) | Token::Binder(_) => None,
     }
 }

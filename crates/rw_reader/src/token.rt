@@ -185,9 +185,9 @@ fn is_among(words: &[&str], text: &[u8]) -> bool
     false
 }
 
-// The number that digits are, where it is a token.
+/// The number that digits are, where it is a token.
 #[tactic(auto, unfolding(crate::specs::Tokens::number_of))]
-fn number(digits: &[u8]) -> Option<u128>
+pub fn number(digits: &[u8]) -> Option<u128>
     ensures { result ≡ number_of digits.now }
 {
     if leads_with_0(digits) {

@@ -1,7 +1,8 @@
 //! Terms and formulas inside a request, and specifications.
 
 ghost use Rattle.std.specs.Prelude.{◌≡◌, ℕ, ◌≤◌, [], length, drop, MatchOption};
-ghost use Rattle.rw_reader.specs.Forms.{rest_of, formula, frame, spec};
+ghost use Rattle.rw_reader.specs.Forms.{rest_of};
+ghost use Rattle.rw_reader.specs.Phrases.{formula, term, frame, spec};
 ghost use Rattle.rw_reader.specs.Progress.{IsPlace, Took, StandsAt, NoClass, GoesAt, EndsAt};
 
 use crate::class::class_of;
@@ -10,7 +11,7 @@ use crate::taking::{accept, expect, fault, names};
 use crate::token::token_at;
 use rw_items::{Boxed, Items};
 use rw_programs::prog::Spec;
-use rw_syntax::build::as_formula;
+use rw_syntax::build::{as_formula, as_term};
 use rw_syntax::frame::Part;
 use rw_syntax::frames::Frames;
 use rw_syntax::state::State;
@@ -18,11 +19,14 @@ use rw_syntax::step::{advance, finish};
 use rw_syntax::stops::{is_inside, stops_at};
 use rw_syntax::token::Token as Class;
 use rw_terms::name::Name;
-use rw_terms::term::Formula;
+use rw_terms::term::{Formula, Term};
 use std::alloc::Global;
 
 /// The level of formulas in the grammar.
 const FORMULA: u8 = 1;
+
+/// The level of terms in the grammar.
+const TERM: u8 = 6;
 
 // What the token at a place is in a term or a formula, and the place of the next one.
 fn class_at(line: &[u8], at: usize) -> Option<(Class, usize)>
@@ -81,7 +85,7 @@ fn part(alloc: Global, most: u64, goal: u8, line: &[u8], at: &mut usize) -> Resu
 }
 
 /// Reads a formula whose own nest is within `most`.
-#[tactic(auto, unfolding(crate::specs::Forms::formula))]
+#[tactic(auto, unfolding(crate::specs::Phrases::formula))]
 pub fn formula(
     alloc: Global,
     most: u64,
@@ -95,6 +99,18 @@ pub fn formula(
 {
     let part = part(alloc, most, FORMULA, line, at)?;
     Ok(as_formula(alloc, part)?)
+}
+
+/// Reads a term whose own nest is within `most`.
+#[tactic(auto, unfolding(crate::specs::Phrases::term))]
+pub fn term(alloc: Global, most: u64, line: &[u8], at: &mut usize) -> Result<Boxed<Term>, ReadError>
+    requires place { IsPlace line.now at.old }
+    requires bound { most ≤ 512 }
+    ensures took { Took (term most) line.now at.old at.new result }
+    ensures on { at.old ≤ at.new }
+{
+    let part = part(alloc, most, TERM, line, at)?;
+    Ok(as_term(alloc, part)?)
 }
 
 // The names before a colon, or none, and the colon.

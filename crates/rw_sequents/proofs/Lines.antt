@@ -15,6 +15,10 @@ use Rattle.rw_goals.specs.Library.{definitions_of}
 use Rattle.rw_goals.proofs.Sound.{AllValid}
 use Rattle.rw_goals.proofs.Closes.{closing_sound}
 use Rattle.rw_goals.proofs.Parted.{parted_left, parted_right, dropped_left, dropped_right, cut_sound}
+use Rattle.rw_axioms.specs.Axioms.{put_same_axiom, put_other_axiom, extension_axiom, division_axiom}
+use Rattle.rw_axioms.proofs.True.{put_same_true, put_other_true, extension_true, division_true, axiom_sound}
+use Rattle.rw_equations.proofs.Equal.{equation_right_sound, flip_sound, rewrite_left_sound, rewrite_right_sound}
+use Rattle.rw_quantifiers.proofs.Quantifiers.{all_at_left_sound, any_at_right_sound, all_at_right_sound, any_at_left_sound}
 use Rattle.rw_sequents.specs.declared.line.CertLine.{CertLine}
 use Rattle.rw_sequents.specs.declared.line.CertLine.TheVariants as line
 use Rattle.rw_sequents.specs.Rules.{after_line}
@@ -44,4 +48,20 @@ module _ (library : Library) (before : ℕ) where
   line_sound q (line.OrR j) v = parted_right (definitions_of library) connective.Or q j v
   line_sound q (line.ImpL i) v = parted_left (definitions_of library) connective.Imp q i v
   line_sound q (line.ImpR j) v = parted_right (definitions_of library) connective.Imp q j v
+  line_sound q (line.AllL i t) v = all_at_left_sound (definitions_of library) q i t v
+  line_sound q (line.ExR j t) v = any_at_right_sound (definitions_of library) q j t v
+  line_sound q (line.AllR j y) v = all_at_right_sound (definitions_of library) q j y v
+  line_sound q (line.ExL i y) v = any_at_left_sound (definitions_of library) q i y v
+  line_sound q (line.EqR j) v = equation_right_sound (definitions_of library) q j v
+  line_sound q (line.Flip i) v = flip_sound (definitions_of library) q i v
+  line_sound q (line.RwL i m) v = rewrite_left_sound (definitions_of library) q i m v
+  line_sound q (line.RwR i j) v = rewrite_right_sound (definitions_of library) q i j v
+  line_sound q (line.PutSame a i e) v =
+      axiom_sound (definitions_of library) q (put_same_axiom q.names a i e) (λ s0 s fits0 fits. put_same_true (definitions_of library) q.names s0 s fits0 fits a i e) v
+  line_sound q (line.PutOther a i e j) v =
+      axiom_sound (definitions_of library) q (put_other_axiom q.names a i e j) (λ s0 s fits0 fits. put_other_true (definitions_of library) q.names s0 s fits0 fits a i e j) v
+  line_sound q (line.ArrExt a b) v =
+      axiom_sound (definitions_of library) q (extension_axiom q.names a b) (λ s0 s fits0 fits. extension_true (definitions_of library) q.names s0 s fits0 fits a b) v
+  line_sound q (line.DivMod t u) v =
+      axiom_sound (definitions_of library) q (division_axiom q.names t u) (λ s0 s fits0 fits. division_true (definitions_of library) q.names s0 s fits0 fits t u) v
   line_sound q (line.Lin lines) v = closed_valid library q lines (lines_fault q.left q.right lines) refl v

@@ -11,11 +11,14 @@ use crate::line::CertLine;
 use rw_arith::check::check_lines;
 use rw_arith::error::LinError;
 use rw_arith::line::LinLine;
+use rw_axioms::axioms::{division, extension, put_other, put_same};
+use rw_equations::equality::{exchange, rewrite_left, rewrite_right, split_equation};
 use rw_goals::closing::{Closing, close};
 use rw_goals::connectives::{Connective, take_apart_left, take_apart_right};
 use rw_goals::cut::{cut, drop_left, drop_right};
 use rw_goals::library::Library;
 use rw_goals::outcome::Outcome;
+use rw_quantifiers::instances::{all_at_left, all_at_right, any_at_left, any_at_right};
 use rw_steps::Steps;
 use rw_terms::sequent::Sequent;
 use std::alloc::{AllocError, Global};
@@ -59,6 +62,18 @@ pub fn apply_line<L: Ledger>(
         CertLine::OrR(j) => take_apart_right(alloc, goal, Connective::Or, *j),
         CertLine::ImpL(i) => take_apart_left(alloc, goal, Connective::Imp, *i),
         CertLine::ImpR(j) => take_apart_right(alloc, goal, Connective::Imp, *j),
+        CertLine::AllL(i, t) => all_at_left(alloc, goal, *i, t),
+        CertLine::ExR(j, t) => any_at_right(alloc, goal, *j, t),
+        CertLine::AllR(j, y) => all_at_right(alloc, goal, *j, y),
+        CertLine::ExL(i, y) => any_at_left(alloc, goal, *i, y),
+        CertLine::EqR(j) => split_equation(alloc, goal, *j),
+        CertLine::Flip(i) => exchange(alloc, goal, *i),
+        CertLine::RwL(i, m) => rewrite_left(alloc, goal, *i, *m),
+        CertLine::RwR(i, j) => rewrite_right(alloc, goal, *i, *j),
+        CertLine::PutSame(a, i, e) => put_same(alloc, goal, a, i, e),
+        CertLine::PutOther(a, i, e, j) => put_other(alloc, goal, a, i, e, j),
+        CertLine::ArrExt(a, b) => extension(alloc, goal, a, b),
+        CertLine::DivMod(t, u) => division(alloc, goal, t, u),
         CertLine::Lin(lines) => refute(alloc, goal, lines.as_slice(), steps),
     }
 }

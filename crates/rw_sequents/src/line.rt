@@ -4,12 +4,13 @@ ghost use Rattle.std.specs.Prelude.{◌≡◌, nat_le, IfOk};
 ghost use Rattle.rw_sequents.specs.Counting.{arithmetic_lines, line_count};
 
 use rw_arith::line::LinLine;
-use rw_items::Items;
-use rw_terms::term::Formula;
+use rw_items::{Boxed, Items};
+use rw_terms::name::Name;
+use rw_terms::term::{Formula, Term};
 use std::alloc::{AllocError, Global};
 
 /// A line of a certificate: a rule with its arguments, in their order. Formulas are numbered from 1. A variant comes with its rule:
-/// those of quantifiers, equality, arrays, division, definitions and lemmas are not built yet.
+/// those of definitions and lemmas are not built yet.
 #[derive(Drop)]
 pub enum CertLine {
     /// Some left formula is the same as some right one.
@@ -32,6 +33,27 @@ pub enum CertLine {
     OrR(u32),
     ImpL(u32),
     ImpR(u32),
+    /// An instance by a term.
+    AllL(u32, Term),
+    ExR(u32, Term),
+    /// An instance by a fresh name.
+    AllR(u32, Name),
+    ExL(u32, Name),
+    /// An equation of integers, by two orders.
+    EqR(u32),
+    /// The sides of an equation exchanged.
+    Flip(u32),
+    /// The equation, and the formula that it rewrites.
+    RwL(u32, u32),
+    RwR(u32, u32),
+    /// An array, an index and what is put there.
+    PutSame(Term, Term, Term),
+    /// The same, and another index.
+    PutOther(Term, Term, Term, Term),
+    /// Two arrays.
+    ArrExt(Term, Term),
+    /// The dividend and the divisor.
+    DivMod(Term, Term),
     /// Arithmetic lines, of which the last is a contradiction.
     Lin(Items<LinLine>),
 }
@@ -66,9 +88,67 @@ impl CertLine {
             CertLine::OrR(j) => Ok(CertLine::OrR(*j)),
             CertLine::ImpL(i) => Ok(CertLine::ImpL(*i)),
             CertLine::ImpR(j) => Ok(CertLine::ImpR(*j)),
+            CertLine::AllL(i, t) => Ok(CertLine::AllL(*i, t.copy(alloc)?)),
+            CertLine::ExR(j, t) => Ok(CertLine::ExR(*j, t.copy(alloc)?)),
+            CertLine::AllR(j, y) => Ok(CertLine::AllR(*j, y.copy())),
+            CertLine::ExL(i, y) => Ok(CertLine::ExL(*i, y.copy())),
+            CertLine::EqR(j) => Ok(CertLine::EqR(*j)),
+            CertLine::Flip(i) => Ok(CertLine::Flip(*i)),
+            CertLine::RwL(i, m) => Ok(CertLine::RwL(*i, *m)),
+            CertLine::RwR(i, j) => Ok(CertLine::RwR(*i, *j)),
+            CertLine::PutSame(a, i, e) => put_same(alloc, a, i, e),
+            CertLine::PutOther(a, i, e, j) => put_other(alloc, a, i, e, j),
+            CertLine::ArrExt(a, b) => array_extension(alloc, a, b),
+            CertLine::DivMod(t, u) => division(alloc, t, u),
             CertLine::Lin(lines) => Ok(CertLine::Lin(copied(alloc, lines.as_slice())?)),
         }
     }
+}
+
+fn put_same(alloc: Global, a: &Term, i: &Term, e: &Term) -> Result<CertLine, AllocError>
+    ensures { IfOk result (λ l. l ≡ CertLine.PutSame a.now i.now e.now) }
+{
+    let a = boxed(alloc, a)?;
+    let i = boxed(alloc, i)?;
+    let e = boxed(alloc, e)?;
+    Ok(CertLine::PutSame(a.into_inner(), i.into_inner(), e.into_inner()))
+}
+
+fn put_other(alloc: Global, a: &Term, i: &Term, e: &Term, j: &Term) -> Result<CertLine, AllocError>
+    ensures { IfOk result (λ l. l ≡ CertLine.PutOther a.now i.now e.now j.now) }
+{
+    let a = boxed(alloc, a)?;
+    let i = boxed(alloc, i)?;
+    let e = boxed(alloc, e)?;
+    let j = boxed(alloc, j)?;
+    Ok(CertLine::PutOther(
+        a.into_inner(),
+        i.into_inner(),
+        e.into_inner(),
+        j.into_inner(),
+    ))
+}
+
+fn array_extension(alloc: Global, a: &Term, b: &Term) -> Result<CertLine, AllocError>
+    ensures { IfOk result (λ l. l ≡ CertLine.ArrExt a.now b.now) }
+{
+    let a = boxed(alloc, a)?;
+    let b = boxed(alloc, b)?;
+    Ok(CertLine::ArrExt(a.into_inner(), b.into_inner()))
+}
+
+fn division(alloc: Global, t: &Term, u: &Term) -> Result<CertLine, AllocError>
+    ensures { IfOk result (λ l. l ≡ CertLine.DivMod t.now u.now) }
+{
+    let t = boxed(alloc, t)?;
+    let u = boxed(alloc, u)?;
+    Ok(CertLine::DivMod(t.into_inner(), u.into_inner()))
+}
+
+fn boxed(alloc: Global, t: &Term) -> Result<Boxed<Term>, AllocError>
+    ensures { IfOk result (λ u. u ≡ t.now) }
+{
+    Boxed::new(alloc, t.copy(alloc)?)
 }
 
 fn copied(alloc: Global, lines: &[LinLine]) -> Result<Items<LinLine>, AllocError>

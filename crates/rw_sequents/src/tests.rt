@@ -42,6 +42,40 @@ impl Stack {
         Ok(Boxed::new(self.alloc, formula)?)
     }
 
+    fn boxed(&mut self) -> Result<Boxed<Term>, Fail> {
+        let term = self.term()?;
+        Ok(Boxed::new(self.alloc, term)?)
+    }
+
+    fn operator(&mut self, word: &str) -> Result<(), Fail> {
+        let b = self.boxed()?;
+        let a = self.boxed()?;
+        let term = match word {
+            "mod" => Term::Mod(a, b),
+            _ => Term::Read(a, b),
+        };
+        self.terms.push(term)?;
+        Ok(())
+    }
+
+    fn put(&mut self) -> Result<(), Fail> {
+        let e = self.boxed()?;
+        let i = self.boxed()?;
+        let a = self.boxed()?;
+        self.terms.push(Term::Put(a, i, e))?;
+        Ok(())
+    }
+
+    fn quantifier(&mut self, word: &str) -> Result<(), Fail> {
+        let f = self.formula()?;
+        let formula = match word {
+            "all" => Formula::All(Sort::Int, f),
+            _ => Formula::Any(Sort::Int, f),
+        };
+        self.formulas.push(formula)?;
+        Ok(())
+    }
+
     fn relation(&mut self, word: &str) -> Result<(), Fail> {
         let u = self.term()?;
         let t = self.term()?;
@@ -83,8 +117,22 @@ impl Stack {
         Ok(())
     }
 
-    fn name(&mut self, word: &str) -> Result<(), Fail> {
-        self.terms.push(Term::Var(Name::read(word.as_bytes())?))?;
+    // A number, a bound variable as `_0`, or a variable.
+    fn leaf(&mut self, word: &str) -> Result<(), Fail> {
+        let term = if word == "_0" {
+            Term::Bound(0)
+        } else {
+            match word.parse::<i128>() {
+                Ok(n) => Term::Lit(n),
+                Err(_) => Term::Var(Name::read(word.as_bytes())?),
+            }
+        };
+        self.terms.push(term)?;
+        Ok(())
+    }
+
+    fn constant(&mut self, formula: Formula) -> Result<(), Fail> {
+        self.formulas.push(formula)?;
         Ok(())
     }
 
@@ -92,23 +140,24 @@ impl Stack {
         match word {
             "=" | "<" | "<=" => self.relation(word),
             "and" | "or" | "=>" => self.connective(word),
+            "all" | "any" => self.quantifier(word),
+            "mod" | "[]" => self.operator(word),
+            "put" => self.put(),
             "not" => self.negation(),
             "P" | "Q" => self.apply(word),
-            "true" => {
-                self.formulas.push(Formula::True)?;
-                Ok(())
-            }
-            "false" => {
-                self.formulas.push(Formula::False)?;
-                Ok(())
-            }
-            "0" => {
-                self.terms.push(Term::Lit(0))?;
-                Ok(())
-            }
-            _ => self.name(word),
+            "true" => self.constant(Formula::True),
+            "false" => self.constant(Formula::False),
+            _ => self.leaf(word),
         }
     }
+}
+
+fn term(alloc: Global, text: &str) -> Result<Term, Fail> {
+    let mut stack = Stack::new(alloc);
+    for word in text.split(' ') {
+        stack.word(word)?;
+    }
+    stack.term()
 }
 
 fn formula(alloc: Global, text: &str) -> Result<Formula, Fail> {
@@ -131,16 +180,21 @@ fn formulas(alloc: Global, text: &str) -> Result<Items<Formula>, Fail> {
     Ok(formulas)
 }
 
-// An integer `x` alone is free.
-fn names(alloc: Global) -> Result<Items<(Name, Sort)>, Fail> {
+// An integer `x` and an array `q` of 3 cells, where they stand in the text.
+fn names(alloc: Global, text: &str) -> Result<Items<(Name, Sort)>, Fail> {
     let mut names = Items::new(alloc);
-    names.push((Name::read(b"x")?, Sort::Int))?;
+    if text.contains("q") {
+        names.push((Name::read(b"q")?, Sort::Array(3)))?;
+    }
+    if text.contains("x") {
+        names.push((Name::read(b"x")?, Sort::Int))?;
+    }
     Ok(names)
 }
 
 fn sequent(alloc: Global, text: &str) -> Result<Sequent, Fail> {
     let (left, right) = text.split_once("|-").ok_or("no sequent")?;
-    let names = names(alloc)?;
+    let names = names(alloc, text)?;
     let left = formulas(alloc, left)?;
     Ok(Sequent {
         names,
@@ -175,15 +229,60 @@ fn numbered_line(rule: &str, number: u32) -> CertLine {
         "orL" => CertLine::OrL(number),
         "orR" => CertLine::OrR(number),
         "impL" => CertLine::ImpL(number),
-        _ => CertLine::ImpR(number),
+        "impR" => CertLine::ImpR(number),
+        "eqR" => CertLine::EqR(number),
+        _ => CertLine::Flip(number),
     }
 }
 
+// A rule with a number and one more argument.
+fn second_line(alloc: Global, rule: &str, number: u32, argument: &str) -> Result<CertLine, Fail> {
+    Ok(match rule {
+        "allL" => CertLine::AllL(number, term(alloc, argument)?),
+        "exR" => CertLine::ExR(number, term(alloc, argument)?),
+        "allR" => CertLine::AllR(number, Name::read(argument.as_bytes())?),
+        "exL" => CertLine::ExL(number, Name::read(argument.as_bytes())?),
+        "rwL" => CertLine::RwL(number, argument.parse::<u32>()?),
+        _ => CertLine::RwR(number, argument.parse::<u32>()?),
+    })
+}
+
+// A rule on terms that stand in a list.
+fn axiom_line(rule: &str, terms: &mut Items<Term>) -> Result<CertLine, Fail> {
+    let last = terms.pop().ok_or("no term")?;
+    let third = terms.pop().ok_or("no term")?;
+    if rule == "arrExt" {
+        return Ok(CertLine::ArrExt(third, last));
+    }
+    if rule == "divMod" {
+        return Ok(CertLine::DivMod(third, last));
+    }
+    let second = terms.pop().ok_or("no term")?;
+    if rule == "putSame" {
+        return Ok(CertLine::PutSame(second, third, last));
+    }
+    let first = terms.pop().ok_or("no term")?;
+    Ok(CertLine::PutOther(first, second, third, last))
+}
+
+fn terms(alloc: Global, text: &str) -> Result<Items<Term>, Fail> {
+    let mut terms = Items::new(alloc);
+    for part in text.split(", ") {
+        terms.push(term(alloc, part)?)?;
+    }
+    Ok(terms)
+}
+
 fn argument_line(alloc: Global, rule: &str, argument: &str) -> Result<CertLine, Fail> {
-    if rule == "cut" {
-        Ok(CertLine::Cut(formula(alloc, argument)?))
-    } else {
-        Ok(numbered_line(rule, argument.parse::<u32>()?))
+    match rule {
+        "cut" => Ok(CertLine::Cut(formula(alloc, argument)?)),
+        "arrExt" | "divMod" | "putSame" | "putOther" => {
+            axiom_line(rule, &mut terms(alloc, argument)?)
+        }
+        _ => match argument.split_once(" ") {
+            Some((number, more)) => second_line(alloc, rule, number.parse::<u32>()?, more),
+            None => Ok(numbered_line(rule, argument.parse::<u32>()?)),
+        },
     }
 }
 
@@ -399,4 +498,102 @@ fn copies_are_checked_alike(rt: HostRuntime) -> Result<(), Fail> {
         Verdict::Good
     );
     Ok(())
+}
+
+#[test]
+fn instances_and_equations_close_their_goals(rt: HostRuntime) -> Result<(), Fail> {
+    let rows = [
+        ("_0 x < all|-0 x <", "allL 1 0 ; ax"),
+        ("0 x <|-_0 x < any", "exR 1 0 ; ax"),
+        ("|-_0 _0 = all", "allR 1 y ; refl"),
+        ("_0 x = any|-true", "exL 1 y ; trueR"),
+        ("x 0 <=, 0 x <=|-x 0 =", "eqR 1 ; ax ; ax"),
+        ("x 0 =|-0 x =", "flip 1 ; ax"),
+        ("x 0 =, x 1 <|-0 1 <", "rwL 1 2 ; ax"),
+        ("x 0 =, 0 1 <|-x 1 <", "rwR 1 1 ; ax"),
+        ("x 0 =, _0 x = any|-_0 0 = any", "rwL 1 2 ; ax"),
+    ];
+    are_good(&rt, rt.alloc(), &rows)
+}
+
+#[test]
+fn axioms_close_their_goals(rt: HostRuntime) -> Result<(), Fail> {
+    let rows = [
+        (
+            "0 x <=, x 3 <|-q x 7 put x [] 7 =",
+            "putSame q, x, 7 ; impL 3 ; andR 2 ; ax ; ax ; ax",
+        ),
+        (
+            "x 0 = not|-q x 7 put 0 [] q 0 [] =",
+            "putOther q, x, 7, 0 ; impL 2 ; ax ; ax",
+        ),
+        ("|-q q =", "arrExt q, q ; impL 1 ; allR 2 y ; refl ; ax"),
+        (
+            "0 x <|-0 7 x mod <=",
+            "divMod 7, x ; andL 2 ; andL 2 ; impL 4 ; ax ; andL 4 ; ax",
+        ),
+    ];
+    are_good(&rt, rt.alloc(), &rows)
+}
+
+#[test]
+fn an_instance_takes_a_fresh_name(rt: HostRuntime) -> Result<(), Fail> {
+    let rows = [
+        ("exL 1 x ; ax", bad(1, 5)),
+        ("exL 1 y ; ax", bad(2, 4)),
+        ("allR 1 y", bad(1, 4)),
+        ("exL 1 y ; cut y 1 = ; ax ; dropR 1", bad(5, 2)),
+        ("exL 1 y ; cut z 1 =", bad(2, 6)),
+    ];
+    verdicts_are(&rt, rt.alloc(), "_0 1 = any|-x 1 =", &rows)
+}
+
+#[test]
+fn rules_fail_by_their_causes(rt: HostRuntime) -> Result<(), Fail> {
+    let rows = [
+        ("allL 9 0", bad(1, 3)),
+        ("allL 1 0", bad(1, 4)),
+        ("allL 4 q", bad(1, 6)),
+        ("allL 4 y", bad(1, 6)),
+        ("allL 4 _0", bad(1, 6)),
+        ("exR 9 0", bad(1, 3)),
+        ("exR 1 0", bad(1, 4)),
+        ("exR 3 q", bad(1, 6)),
+        ("allR 9 y", bad(1, 3)),
+        ("exL 4 x", bad(1, 4)),
+        ("eqR 9", bad(1, 3)),
+        ("eqR 2", bad(1, 4)),
+        ("eqR 3", bad(1, 4)),
+        ("flip 9", bad(1, 3)),
+        ("flip 1", bad(1, 4)),
+        ("rwL 9 1", bad(1, 3)),
+        ("rwL 2 9", bad(1, 3)),
+        ("rwL 9 9", bad(1, 3)),
+        ("rwL 2 2", bad(1, 4)),
+        ("rwL 1 2", bad(1, 4)),
+        ("rwR 9 1", bad(1, 3)),
+        ("rwR 2 9", bad(1, 3)),
+        ("rwR 1 1", bad(1, 4)),
+    ];
+    verdicts_are(
+        &rt,
+        rt.alloc(),
+        "0 x <, x 0 =, q q =, _0 x < all|-x 0 =, q q =, _0 x < any",
+        &rows,
+    )
+}
+
+#[test]
+fn axioms_fail_by_their_sorts(rt: HostRuntime) -> Result<(), Fail> {
+    let rows = [
+        ("putSame x, x, x", bad(1, 6)),
+        ("putSame q, q, x", bad(1, 6)),
+        ("putOther q, x, x, q", bad(1, 6)),
+        ("putOther q, x, y, x", bad(1, 6)),
+        ("arrExt q, x", bad(1, 6)),
+        ("divMod q, x", bad(1, 6)),
+        ("divMod x, y", bad(1, 6)),
+        ("divMod x, x", bad(2, 2)),
+    ];
+    verdicts_are(&rt, rt.alloc(), "q q =|-x x =", &rows)
 }

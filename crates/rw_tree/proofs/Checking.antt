@@ -14,7 +14,7 @@ use Rattle.std.specs.List.{list_all}
 use Rattle.rw_faults.specs.Limits.{is_light, is_shallow}
 use Rattle.rw_sequents.specs.Counting.{line_count}
 use Rattle.rw_tree.specs.Edits.{cert_at, cert_set, cert_dropped, behind, is_node, obligations_of}
-use Rattle.rw_tree.specs.Refusals.{has_obligation, passes, cert_limit, IsGood}
+use Rattle.rw_tree.specs.Refusals.{has_obligation, is_light_term, is_shallow_term, passes, cert_limit, IsGood}
 use Rattle.rw_tree.specs.Anew.{main_context, judged, root_judged, root_mark, root_place}
 use Rattle.rw_tree.specs.Parts.{Makes, HasFewLines, judged_in, mark_in}
 
@@ -33,7 +33,7 @@ short_told false false c e = elim (leb_tells (line_count c.lines) 4096) [
 ]
 
 is_short : (c : Cert) → cert_limit c ≡ None → line_count c.lines ≤ 4096
-is_short c e = short_told (not (list_all (passes is_light) c.lines)) (not (list_all (passes is_shallow) c.lines)) c e
+is_short c e = short_told (not (list_all (passes is_light is_light_term) c.lines)) (not (list_all (passes is_shallow is_shallow_term) c.lines)) c e
 
 kept : (b : Bool) (old : Option Cert) (c : Cert) → unwrap_or (if b then Some None else None) old ≡ Some c → old ≡ Some c
 kept true old c e = absurd (cc)

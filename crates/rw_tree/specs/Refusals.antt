@@ -1,7 +1,9 @@
 -- Which test refuses an edit after a list of edits.
 use Rattle.std.specs.Prelude.{◌≡◌, ℕ, Bool, true, not, ◌&&◌, ◌||◌, if◌then◌else◌, nat_le, nat_lt, length, List, [], ◌∷◌, map, Option, Some, None}
 use Rattle.rw_terms.specs.declared.scope.Entry.{Entry}
+use Rattle.rw_terms.specs.declared.term.Term.{Term}
 use Rattle.rw_terms.specs.declared.term.Formula.{Formula}
+use Rattle.rw_terms.specs.Size.{term_weight, term_depth}
 use Rattle.rw_faults.specs.Faults.{first_name, unknown_in, is_ill_sorted}
 use Rattle.rw_faults.specs.Initial.{is_twice, initial_outside}
 use Rattle.rw_faults.specs.Limits.{is_light, is_shallow, is_small}
@@ -78,17 +80,30 @@ at_node l q ask = if is_node l q.path.kids then ask else Some (refusal.NoNode q)
 abbrev pub has_obligation : List Edit → List ℕ → ℕ → Bool
 has_obligation l p k = nat_le 1 k && nat_le k (obligations_in (step_at l p))
 
--- the formula of a line, if it has one, passes a test
-abbrev pub passes : (Formula → Bool) → CertLine → Bool
-passes test (line.Cut f) = test f
-passes test _ = true
+-- the limits of a term in a certificate are those of a formula
+abbrev pub is_light_term : Term → Bool
+is_light_term t = nat_le (term_weight t) 1024
 
--- the first limit that a certificate passes: the weight and the depth of each formula in it, and 4096 lines, rule lines and
+abbrev pub is_shallow_term : Term → Bool
+is_shallow_term t = nat_le (term_depth t) 64
+
+-- the formula of a line passes a test, and so do its terms another
+abbrev pub passes : (Formula → Bool) → (Term → Bool) → CertLine → Bool
+passes formula term (line.Cut f) = formula f
+passes formula term (line.AllL i t) = term t
+passes formula term (line.ExR j t) = term t
+passes formula term (line.PutSame a i e) = term a && (term i && term e)
+passes formula term (line.PutOther a i e j) = term a && (term i && (term e && term j))
+passes formula term (line.ArrExt a b) = term a && term b
+passes formula term (line.DivMod t u) = term t && term u
+passes formula term _ = true
+
+-- the first limit that a certificate passes: the weight and the depth of each formula and term in it, and 4096 lines, rule lines and
 -- arithmetic lines
 abbrev pub cert_limit : Cert → Option EditRefusal
 cert_limit c =
-    if not (list_all (passes is_light) c.lines) then Some (refusal.Limit which.Weight 1024)
-    else if not (list_all (passes is_shallow) c.lines) then Some (refusal.Limit which.Depth 64)
+    if not (list_all (passes is_light is_light_term) c.lines) then Some (refusal.Limit which.Weight 1024)
+    else if not (list_all (passes is_shallow is_shallow_term) c.lines) then Some (refusal.Limit which.Depth 64)
     else if nat_le (line_count c.lines) 4096 then None
     else Some (refusal.Limit which.Lines 4096)
 

@@ -3,16 +3,18 @@
 ghost use Rattle.std.specs.Prelude.{◌≡◌};
 ghost use Rattle.std.specs.List.{list_all};
 ghost use Rattle.rw_faults.specs.Limits.{is_light as is_light_formula, is_shallow as is_shallow_formula};
-ghost use Rattle.rw_tree.specs.Refusals.{passes, cert_limit};
+ghost use Rattle.rw_tree.specs.Refusals.{is_light_term, is_shallow_term, passes, cert_limit};
 
 use crate::refusal::{EditRefusal, Which};
 use rw_faults::limits::{is_light, is_shallow};
 use rw_sequents::line::{Cert, CertLine};
+use rw_terms::measure::{depth_of_term, weight_of_term};
 use rw_terms::sorts::{MOST_DEPTH, MOST_PARTS};
+use rw_terms::term::Term;
 
 const MOST_LINES: u32 = 4096;
 
-/// The first limit that the certificate passes: the weight and the depth of each formula in it, and the number of its lines,
+/// The first limit that the certificate passes: the weight and the depth of each formula and term in it, and the number of its lines,
 /// rule lines and arithmetic lines.
 pub fn cert_limit(cert: &Cert) -> Option<EditRefusal>
     ensures { result ≡ cert_limit cert.now }
@@ -31,7 +33,7 @@ pub fn cert_limit(cert: &Cert) -> Option<EditRefusal>
 }
 
 fn are_light(lines: &[CertLine]) -> bool
-    ensures { result ≡ list_all (passes is_light_formula) lines.now }
+    ensures { result ≡ list_all (passes is_light_formula is_light_term) lines.now }
 {
     for line in lines {
         if !is_light_line(line) {
@@ -42,16 +44,23 @@ fn are_light(lines: &[CertLine]) -> bool
 }
 
 fn is_light_line(line: &CertLine) -> bool
-    ensures { result ≡ passes is_light_formula line.now }
+    ensures { result ≡ passes is_light_formula is_light_term line.now }
 {
     match line {
         CertLine::Cut(formula) => is_light(formula),
+        CertLine::AllL(_, t) | CertLine::ExR(_, t) => is_light_term(t),
+        CertLine::PutSame(a, i, e) => is_light_term(a) && is_light_term(i) && is_light_term(e),
+        CertLine::PutOther(a, i, e, j) => {
+            is_light_term(a) && is_light_term(i) && is_light_term(e) && is_light_term(j)
+        }
+        CertLine::ArrExt(a, b) => is_light_term(a) && is_light_term(b),
+        CertLine::DivMod(t, u) => is_light_term(t) && is_light_term(u),
         _ => true,
     }
 }
 
 fn are_shallow(lines: &[CertLine]) -> bool
-    ensures { result ≡ list_all (passes is_shallow_formula) lines.now }
+    ensures { result ≡ list_all (passes is_shallow_formula is_shallow_term) lines.now }
 {
     for line in lines {
         if !is_shallow_line(line) {
@@ -62,10 +71,31 @@ fn are_shallow(lines: &[CertLine]) -> bool
 }
 
 fn is_shallow_line(line: &CertLine) -> bool
-    ensures { result ≡ passes is_shallow_formula line.now }
+    ensures { result ≡ passes is_shallow_formula is_shallow_term line.now }
 {
     match line {
         CertLine::Cut(formula) => is_shallow(formula),
+        CertLine::AllL(_, t) | CertLine::ExR(_, t) => is_shallow_term(t),
+        CertLine::PutSame(a, i, e) => is_shallow_term(a)
+            && is_shallow_term(i)
+            && is_shallow_term(e),
+        CertLine::PutOther(a, i, e, j) => {
+            is_shallow_term(a) && is_shallow_term(i) && is_shallow_term(e) && is_shallow_term(j)
+        }
+        CertLine::ArrExt(a, b) => is_shallow_term(a) && is_shallow_term(b),
+        CertLine::DivMod(t, u) => is_shallow_term(t) && is_shallow_term(u),
         _ => true,
     }
+}
+
+fn is_light_term(term: &Term) -> bool
+    ensures { result ≡ is_light_term term.now }
+{
+    weight_of_term(term) <= MOST_PARTS
+}
+
+fn is_shallow_term(term: &Term) -> bool
+    ensures { result ≡ is_shallow_term term.now }
+{
+    depth_of_term(term) <= MOST_DEPTH
 }

@@ -4,9 +4,9 @@ ghost use Rattle.std.specs.Prelude.{◌≡◌, IfOk};
 ghost use Rattle.rw_tree.specs.Edits.{obligations_of};
 
 use rw_items::Items;
-use rw_skip::step::BasicStep;
 use rw_programs::prog::{Param, Spec};
 use rw_sequents::line::Cert;
+use rw_skip::step::BasicStep;
 use std::alloc::{AllocError, Global};
 
 /// The name of a tree.

@@ -1,6 +1,7 @@
 use Rattle.std.proofs.Common.{◌-◌, length}
 use Rattle.std.specs.Prelude.{codes}
-use Rattle.rw_reader.specs.Forms.{a_line, line_form, line_in}
+use Rattle.rw_reader.specs.Forms.{a_line}
+use Rattle.rw_reader.specs.Certificates.{line_form, line_in}
 use Rattle.rw_reader.specs.Progress.{IsPlace}
 use Rattle.rw_reader.proofs.Listing.{Listed}
 use Rattle.rw_reader.proofs.certificate.cert.Given as goal

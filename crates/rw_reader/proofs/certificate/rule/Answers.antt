@@ -1,21 +1,69 @@
-use Rattle.std.proofs.Common.{◌∙◌}
+use Rattle.std.proofs.Common.{◌∙◌, arith, sym, ap}
 use Rattle.std.proofs.lemmas.Result.{err_from_is_err_and}
-use Rattle.rw_reader.specs.Forms.{rule}
-use Rattle.rw_reader.proofs.Parts.{carried}
+use Rattle.rw_reader.specs.Certificates.{rule}
+use Rattle.rw_reader.proofs.Parts.{carried, passed_on, told_as}
+use Rattle.rw_sequents.specs.declared.line.CertLine.TheVariants as lines
 use Rattle.rw_reader.proofs.certificate.rule.Goals as goal
 
 pub returns-then-accept-clause-took : goal.returns-then-accept-clause-took
 unfolding rule
 returns-then-accept-clause-took c = (c.if-accept.ensures.chose.0, λ k. c.if-accept.ensures.chose.1 _ _)
 
+pub returns-then-accept-clause-on : goal.returns-then-accept-clause-on
+returns-then-accept-clause-on c = let h0 = c.if-accept.ensures.on in omega arith
+
 pub returns-then-accept-2-clause-took : goal.returns-then-accept-2-clause-took
 unfolding rule
 returns-then-accept-2-clause-took c = (c.if-accept-2.ensures.chose.0, λ k. c.if-accept.ensures.chose.1 _ _ ∙ c.if-accept-2.ensures.chose.1 _ _)
+
+pub returns-then-accept-2-clause-on : goal.returns-then-accept-2-clause-on
+returns-then-accept-2-clause-on c = let h0 = c.if-accept.ensures.on in let h1 = c.if-accept-2.ensures.on in omega arith
 
 pub returns-then-accept-3-clause-took : goal.returns-then-accept-3-clause-took
 unfolding rule
 returns-then-accept-3-clause-took c = (c.if-accept-3.ensures.chose.0, λ k. c.if-accept.ensures.chose.1 _ _ ∙ c.if-accept-2.ensures.chose.1 _ _ ∙ c.if-accept-3.ensures.chose.1 _ _)
 
+pub returns-then-accept-3-clause-on : goal.returns-then-accept-3-clause-on
+returns-then-accept-3-clause-on c = let h0 = c.if-accept.ensures.on in let h1 = c.if-accept-2.ensures.on in let h2 = c.if-accept-3.ensures.on in omega arith
+
 pub returns-then-accept-4-clause-took : goal.returns-then-accept-4-clause-took
 unfolding rule
 returns-then-accept-4-clause-took c = (c.if-accept-4.ensures.chose.0, λ k. c.if-accept.ensures.chose.1 _ _ ∙ c.if-accept-2.ensures.chose.1 _ _ ∙ c.if-accept-3.ensures.chose.1 _ _ ∙ c.if-accept-4.ensures.chose.1 _ _)
+
+pub returns-then-accept-4-clause-on : goal.returns-then-accept-4-clause-on
+returns-then-accept-4-clause-on c = let h0 = c.if-accept.ensures.on in let h1 = c.if-accept-2.ensures.on in let h2 = c.if-accept-3.ensures.on in let h3 = c.if-accept-4.ensures.on in omega arith
+
+pub returns-in_err-formula-clause-took : goal.returns-in_err-formula-clause-took
+unfolding rule
+returns-in_err-formula-clause-took c = let p = err_from_is_err_and c.from_residual.result c.from_residual.ensures.1 in rw (p.1, p.2) (λ k. carried c.args.line.now _ (c.if-accept.ensures.chose.1 _ _ ∙ c.if-accept-2.ensures.chose.1 _ _ ∙ c.if-accept-3.ensures.chose.1 _ _ ∙ c.if-accept-4.ensures.chose.1 _ _ ∙ c.if-accept-5.ensures.chose.1 _ _) (c.in_err-formula.ensures.took _))
+
+pub returns-in_err-formula-clause-on : goal.returns-in_err-formula-clause-on
+returns-in_err-formula-clause-on c = let h0 = c.if-accept.ensures.on in let h1 = c.if-accept-2.ensures.on in let h2 = c.if-accept-3.ensures.on in let h3 = c.if-accept-4.ensures.on in let h4 = c.if-accept-5.ensures.on in let h5 = c.in_err-formula.ensures.on in omega arith
+
+pub returns-then-accept-5-clause-took : goal.returns-then-accept-5-clause-took
+unfolding rule
+returns-then-accept-5-clause-took c = (c.in_ok-formula.ensures.took.0, λ k. told_as _ _ _ k _ _ (ap (λ z. lines.Cut z) (sym c.into_inner.ensures)) (c.if-accept.ensures.chose.1 _ _ ∙ c.if-accept-2.ensures.chose.1 _ _ ∙ c.if-accept-3.ensures.chose.1 _ _ ∙ c.if-accept-4.ensures.chose.1 _ _ ∙ c.if-accept-5.ensures.chose.1 _ _ ∙ c.in_ok-formula.ensures.took.1 _))
+
+pub returns-then-accept-5-clause-on : goal.returns-then-accept-5-clause-on
+returns-then-accept-5-clause-on c = let h0 = c.if-accept.ensures.on in let h1 = c.if-accept-2.ensures.on in let h2 = c.if-accept-3.ensures.on in let h3 = c.if-accept-4.ensures.on in let h4 = c.if-accept-5.ensures.on in let h5 = c.in_ok-formula.ensures.on in omega arith
+
+pub returns-in_err-lines-clause-took : goal.returns-in_err-lines-clause-took
+unfolding rule
+returns-in_err-lines-clause-took c = let p = err_from_is_err_and c.from_residual-in_err-lines.result c.from_residual-in_err-lines.ensures.1 in rw (p.1, p.2) (λ k. carried c.args.line.now _ (c.if-accept.ensures.chose.1 _ _ ∙ c.if-accept-2.ensures.chose.1 _ _ ∙ c.if-accept-3.ensures.chose.1 _ _ ∙ c.if-accept-4.ensures.chose.1 _ _ ∙ c.if-accept-5.ensures.chose.1 _ _ ∙ c.if-accept-6.ensures.chose.1 _ _) (c.in_err-lines.ensures.took _))
+
+pub returns-in_err-lines-clause-on : goal.returns-in_err-lines-clause-on
+returns-in_err-lines-clause-on c = let h0 = c.if-accept.ensures.on in let h1 = c.if-accept-2.ensures.on in let h2 = c.if-accept-3.ensures.on in let h3 = c.if-accept-4.ensures.on in let h4 = c.if-accept-5.ensures.on in let h5 = c.if-accept-6.ensures.on in let h6 = c.in_err-lines.ensures.on in omega arith
+
+pub returns-then-accept-6-clause-took : goal.returns-then-accept-6-clause-took
+unfolding rule
+returns-then-accept-6-clause-took c = (c.in_ok-lines.ensures.took.0, λ k. c.if-accept.ensures.chose.1 _ _ ∙ c.if-accept-2.ensures.chose.1 _ _ ∙ c.if-accept-3.ensures.chose.1 _ _ ∙ c.if-accept-4.ensures.chose.1 _ _ ∙ c.if-accept-5.ensures.chose.1 _ _ ∙ c.if-accept-6.ensures.chose.1 _ _ ∙ c.in_ok-lines.ensures.took.1 _)
+
+pub returns-then-accept-6-clause-on : goal.returns-then-accept-6-clause-on
+returns-then-accept-6-clause-on c = let h0 = c.if-accept.ensures.on in let h1 = c.if-accept-2.ensures.on in let h2 = c.if-accept-3.ensures.on in let h3 = c.if-accept-4.ensures.on in let h4 = c.if-accept-5.ensures.on in let h5 = c.if-accept-6.ensures.on in let h6 = c.in_ok-lines.ensures.on in omega arith
+
+pub returns-clause-took : goal.returns-clause-took
+unfolding rule
+returns-clause-took c = passed_on _ _ c.args.line.now _ _ _ c.instance.result (λ k. c.if-accept.ensures.chose.1 _ _ ∙ c.if-accept-2.ensures.chose.1 _ _ ∙ c.if-accept-3.ensures.chose.1 _ _ ∙ c.if-accept-4.ensures.chose.1 _ _ ∙ c.if-accept-5.ensures.chose.1 _ _ ∙ c.if-accept-6.ensures.chose.1 _ _) c.instance.ensures.took
+
+pub returns-clause-on : goal.returns-clause-on
+returns-clause-on c = let h0 = c.if-accept.ensures.on in let h1 = c.if-accept-2.ensures.on in let h2 = c.if-accept-3.ensures.on in let h3 = c.if-accept-4.ensures.on in let h4 = c.if-accept-5.ensures.on in let h5 = c.if-accept-6.ensures.on in let h6 = c.instance.ensures.on in omega arith

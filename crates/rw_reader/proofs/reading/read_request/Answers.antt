@@ -2,7 +2,8 @@ use Rattle.std.proofs.Common.{◌∙◌, ap}
 use Rattle.std.specs.Prelude.{Ok, Err}
 use Rattle.std.proofs.lemmas.Result.{err_from_is_err_and}
 use Rattle.rw_reader.specs.declared.request.Request.TheVariants as requests
-use Rattle.rw_reader.specs.Forms.{a_request, request_form, var_form, root_form, step_form, prove_form}
+use Rattle.rw_reader.specs.Forms.{a_request}
+use Rattle.rw_reader.specs.Requests.{request_form, var_form, root_form, step_form, prove_form}
 use Rattle.rw_reader.specs.Reading.{told}
 use Rattle.rw_reader.proofs.Parts.{carried}
 use Rattle.rw_reader.proofs.Lines.{begun, answers_ok, answers_err}

@@ -1,6 +1,7 @@
 use Rattle.std.proofs.Common.{◌-◌, length}
 use Rattle.std.specs.Prelude.{codes}
-use Rattle.rw_reader.specs.Forms.{a_name, name_form, name_in}
+use Rattle.rw_reader.specs.Forms.{a_name}
+use Rattle.rw_reader.specs.Phrases.{name_form, name_in}
 use Rattle.rw_reader.specs.Progress.{IsPlace}
 use Rattle.rw_reader.proofs.Listing.{Listed}
 use Rattle.rw_reader.proofs.taking.names.Given as goal

@@ -1,6 +1,6 @@
 use Rattle.std.proofs.Common.{◌∙◌}
 use Rattle.std.proofs.lemmas.Result.{err_from_is_err_and}
-use Rattle.rw_reader.specs.Forms.{sort}
+use Rattle.rw_reader.specs.Phrases.{sort}
 use Rattle.rw_reader.proofs.Parts.{carried}
 use Rattle.rw_reader.proofs.taking.sort.Goals as goal
 

@@ -1,6 +1,6 @@
 use Rattle.std.proofs.Common.{◌∙◌, ap, sym, drop}
 use Rattle.std.proofs.lemmas.Result.{err_from_is_err_and}
-use Rattle.rw_reader.specs.Forms.{frame}
+use Rattle.rw_reader.specs.Phrases.{frame}
 use Rattle.rw_reader.specs.Reading.{read_form}
 use Rattle.rw_reader.proofs.Parts.{carried}
 use Rattle.rw_reader.proofs.value.frame.Goals as goal

@@ -29,7 +29,7 @@ tokens-smaller c =
 pub tokens-preserved : goal.tokens-preserved
 tokens-preserved c = record {
   place = record { short = c.requires.place.short; within = c.in-Some.ensures.0.0 };
-  on = further c.args.line.now c.args.at.now c.tokens.at c.in-Some.next c.tokens.invariant.on c.in-Some.ensures.0.1.0 c.in-Some.ensures.0.1.1;
+  on = further c.args.line.now c.args.at.now c.tokens.at c.in-Some.next c.in-Some.ensures.0.1.0 c.tokens.invariant.on c.in-Some.ensures.0.1.1;
   inside = turned c.args.most c.args.goal c.args.line.now c.args.at.now c.tokens.at c.tokens.state (c.in-Some.class, c.in-Some.next) c.in_ok-behind.field-0 c.in-Some-2.behind c.tokens.invariant.inside c.in-Some.ensures.0 c.in_ok-behind.ensures.state c.in-Some-2.is;
   opened = opened_of c.args.most c.in_ok-behind.field-0 c.in-Some-2.behind c.in-Some-2.is c.in_ok-behind.ensures.within c.requires.bound;
 }

@@ -1,6 +1,6 @@
 use Rattle.std.proofs.Common.{◌∙◌, ap, drop}
 use Rattle.std.proofs.lemmas.Result.{err_from_is_err_and}
-use Rattle.rw_reader.specs.Forms.{spec}
+use Rattle.rw_reader.specs.Phrases.{spec}
 use Rattle.rw_reader.specs.Reading.{read_form}
 use Rattle.rw_reader.proofs.Made.{made_spec}
 use Rattle.rw_reader.proofs.Parts.{carried}

@@ -1,0 +1,10 @@
+use Rattle.std.proofs.Common.{◌∙◌, ap, subst, IfOk}
+use Rattle.rw_goals.specs.Premises.{Gives, effect}
+use Rattle.rw_axioms.specs.Axioms.{axiom_parts, put_other_axiom}
+use Rattle.rw_axioms.proofs.axioms.put_other.Goals as goal
+
+pub returns : goal.returns
+returns c =
+    subst (λ f. IfOk c.add_axiom.result (λ o. Gives o c.add_axiom.new.goal (effect (axiom_parts f) c.args.goal.now)))
+    (c.in_ok-found.ensures ∙ ap (λ names. put_other_axiom names c.args.a.now c.args.i.now c.args.e.now c.args.j.now) c.as_slice.ensures)
+    c.add_axiom.ensures

@@ -1,0 +1,3 @@
+pub mod Rewrites
+pub mod Equal
+pub mod Sides

@@ -1,0 +1,4 @@
+//! The rules of quantifiers.
+#![tactic(auto)]
+
+pub mod instances;
