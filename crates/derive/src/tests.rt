@@ -176,7 +176,9 @@ fn status_by(
     cert: &str,
     status: &str,
 ) -> Result<(), Fail> {
-    let script = format!(in alloc; "var x : int\nvar y : int\nvar a : array 3\nvar b : array 3\nroot {root}\nstep main skip\nprove main 1 {cert}\nstatus")?;
+    let script = format!(in alloc;
+        "var x : int\nvar y : int\nvar a : array 3\nvar b : array 3\nroot {root}\nstep main skip\nprove main 1 {cert}\nstatus"
+    )?;
     let replies = format!(in alloc; "ok 1\nok 2\nok 3\nok 4\nok 5\nok 6\nok 7\n{status}\n")?;
     answers(rt, alloc, &[(script.as_str(), 0, replies.as_str())])
 }
@@ -205,6 +207,30 @@ fn good_certificates_close_the_derivation(rt: HostRuntime) -> Result<(), Fail> {
             "lin [1*L1] [1/2] [-1*L1] [3/2] [1*2 + 1*4]",
         ),
         ("x:[x = 1 and y = 2, y = 2]", "andL 1 ; ax"),
+        ("x:[true, forall i:int . i = i]", "allR 1 y ; refl"),
+        ("x:[exists i:int . i < x, 0 = 0]", "exL 1 y ; refl"),
+        ("x:[forall i:int . i < x, x < x]", "allL 1 x ; ax"),
+        ("x:[x = 1, exists i:int . i = 1]", "exR 1 x ; ax"),
+        ("x:[x <= y and y <= x, x = y]", "andL 1 ; eqR 1 ; ax ; ax"),
+        ("x:[x = 1, 1 = x]", "flip 1 ; ax"),
+        ("x:[x = y and y < 3, x < 3]", "andL 1 ; rwR 1 1 ; ax"),
+        ("x:[x = y and x < 3, y < 3]", "andL 1 ; rwL 1 2 ; ax"),
+        (
+            "x:[true, put(a, 1, x)[1] = x]",
+            "putSame a, 1, x ; impL 2 ; andR 2 ; lin [1*R2] ; lin [1*R2] ; ax",
+        ),
+        (
+            "x:[not 1 = y, put(a, 1, x)[y] = a[y]]",
+            "putOther a, 1, x, y ; impL 2 ; ax ; ax",
+        ),
+        (
+            "x:[forall i:int . a[i] = b[i], a = b]",
+            "arrExt a, b ; impL 2 ; ax ; ax",
+        ),
+        (
+            "x:[true, x mod 2 < 2]",
+            "divMod x, 2 ; andL 2 ; andL 2 ; impL 4 ; lin [1*R2] ; andL 4 ; ax",
+        ),
     ];
     are_closed(&rt, rt.alloc(), &rows)
 }
@@ -228,6 +254,36 @@ fn false_certificates_are_told_by_line_and_cause(rt: HostRuntime) -> Result<(), 
             "lin [85070591730234615865843651857942052864*L1]",
             "1.1 10",
         ),
+    ];
+    statuses_by(&rt, rt.alloc(), &rows)
+}
+
+#[test]
+fn rules_of_terms_fail_by_their_causes(rt: HostRuntime) -> Result<(), Fail> {
+    let root = "x:[exists i:int . i = 1, x = 1]";
+    let arrays = "x:[a = b, b = a and x = x]";
+    let rows = [
+        (root, "exL 1 x ; ax", "1 5"),
+        (root, "exL 1 y ; ax", "2 4"),
+        (root, "exL 2 y", "1 3"),
+        (root, "exL 1 y ; exR 1 x", "2 4"),
+        (root, "allR 1 y", "1 4"),
+        (root, "allL 1 x", "1 4"),
+        (root, "allL 1 y", "1 4"),
+        (root, "exR 2 x", "1 3"),
+        (root, "rwR 1 1", "1 4"),
+        (root, "eqR 1 ; flip 1", "2 4"),
+        (root, "divMod y, 2", "1 6"),
+        (root, "divMod x, a", "1 6"),
+        (root, "putSame x, 1, 1", "1 6"),
+        (root, "cut exists i:int . y = i", "1 6"),
+        (arrays, "andR 1 ; eqR 1", "2 4"),
+        (arrays, "rwL 1 1", "1 4"),
+        (arrays, "rwR 1 2", "1 3"),
+        (arrays, "rwR 2 1", "1 3"),
+        (arrays, "arrExt a, x", "1 6"),
+        (arrays, "putOther a, 1, 2, b", "1 6"),
+        (arrays, "flip 1 ; andR 1 ; ax ; dropR 1", "5 2"),
     ];
     statuses_by(&rt, rt.alloc(), &rows)
 }

@@ -8,9 +8,9 @@ ghost use Rattle.rw_goals.specs.Premises.{Gives, numbered};
 ghost use Rattle.rw_goals.specs.Premises as effects;
 ghost use Rattle.rw_equations.specs.Equality.{equal_right, equation_right, flipped, flip, sides, rewritten_by, rewriting, if_small, unless_itself, rewrite_left, rewrite_right};
 
+use crate::rewriting::rewrite;
 use rw_axioms::axioms::is_int;
 use rw_axioms::building::{at_most, boxed};
-use crate::rewriting::rewrite;
 use rw_goals::added::{Added, Parts};
 use rw_goals::cut::is_large;
 use rw_goals::outcome::{NO_FORMULA, Outcome, SHAPE, TOO_LARGE, numbered, put_premises};
