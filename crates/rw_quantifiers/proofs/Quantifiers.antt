@@ -1,8 +1,7 @@
 -- The rules of quantifiers are sound.
-use Rattle.std.proofs.Common.{◌≡◌, ◌↔◌, ℕ, ◌-◌, ◌&&◌, Bool, true, false, List, [], ◌∷◌, ◌++◌, remove, reverse, Option, Some, None, refl, sym, ◌∙◌, ap, subst, true≢false, IsTrue}
+use Rattle.std.proofs.Common.{◌≡◌, ◌↔◌, ℕ, ◌-◌, ◌&&◌, Bool, true, false, List, [], ◌∷◌, remove, reverse, Option, Some, None, refl, sym, ◌∙◌, ap, subst, true≢false}
 use Rattle.std.specs.Prelude.{is_some}
 use Rattle.std.specs.List.{list_any}
-use Rattle.std.proofs.lemmas.List.{append-nil}
 use Rattle.std.proofs.lemmas.Bool.Decides.{Decides-eqb}
 use Rattle.rw_terms.specs.declared.term.Sort.{Sort}
 use Rattle.rw_terms.specs.declared.term.Sort.TheVariants.{Int, Array}
@@ -25,20 +24,17 @@ use Rattle.rw_terms.specs.State.{Value, State, value_in, HasSort, with_value}
 use Rattle.rw_terms.specs.Value.{value}
 use Rattle.rw_terms.specs.Truth.{Definition, predicates_of, holds}
 use Rattle.rw_terms.specs.Validity.{Each, FitsNames, Valid}
-use Rattle.rw_terms.proofs.Truths.{to_layer, from_layer, layer_truth, holds_stable, predicates_stable}
+use Rattle.rw_terms.proofs.Truths.{holds_stable, predicates_stable}
 use Rattle.rw_subst.specs.Closed.{closed_step, is_closed}
 use Rattle.rw_subst.specs.Replaced.{opened}
 use Rattle.rw_subst.proofs.Replacing.{opening_holds_in_states}
-use Rattle.rw_goals.specs.declared.added.Parts.{Parts}
-use Rattle.rw_goals.specs.declared.added.Parts.TheVariants as parts
 use Rattle.rw_goals.specs.Premises.{with_added, effect}
-use Rattle.rw_goals.specs.Cut.{is_large}
 use Rattle.rw_goals.specs.Sorting.{sort_step, sort_of}
 use Rattle.rw_goals.proofs.Sorted.{has_sort, int_known, ints_known, read_known, put_known, none_there}
 use Rattle.rw_goals.proofs.Sound as sound
 use Rattle.rw_goals.proofs.Sound.{Holds, Denies, HoldsAt, AllValid, one_valid, one_refuted, joined, taken}
 use Rattle.rw_goals.proofs.Places.{without_left, without_right, left_sound, right_sound, beside_left_sound, beside_right_sound}
-use Rattle.rw_quantifiers.specs.Quantified.{if_small, instance, typed_left, typed_right, all_left, any_right, all_at_left, any_at_right, is_known, new_left, new_right, fresh_left, fresh_right, all_right, any_left, all_at_right, any_at_left}
+use Rattle.rw_quantifiers.specs.Quantified.{if_small, instance, typed_left, typed_right, all_left, any_right, all_at_left, any_at_right, is_known, fresh_left, fresh_right, all_right, any_left, all_at_right, any_at_left}
 use Rattle.rw_quantifiers.proofs.Fresh.{neither, Unmentioned, unmentioned, unnamed, fits_more, new_value, kept, each_kept}
 
 -- a term of a sort over names has no loose binder

@@ -1,6 +1,5 @@
 -- The limits of an instance.
-use Rattle.std.proofs.Common.{◌≡◌, ℕ, ◌||◌, Bool, true, false, Some, None, refl, sym, ap, ◌<◌, ◌≤◌, ◌⊎◌, inl, inr, true≢false}
-use Rattle.std.specs.Prelude.{ltb}
+use Rattle.std.proofs.Common.{◌≡◌, ◌||◌, Bool, true, false, Some, None, refl, sym, ap, ◌<◌, ◌⊎◌, inl, inr, true≢false}
 use Rattle.std.proofs.lemmas.Bool.{lt-ltb, le-ltb}
 use Rattle.rw_terms.specs.declared.term.Formula.{Formula}
 use Rattle.rw_terms.specs.Size.{formula_weight, formula_depth}
