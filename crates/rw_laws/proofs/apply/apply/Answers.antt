@@ -1,0 +1,13 @@
+use Rattle.std.proofs.Common.{◌≡◌, sym, subst}
+use Rattle.rw_laws.specs.Laws.{applied, law_of, FitsWith}
+use Rattle.rw_laws.proofs.Fitting.{joined, has_pins}
+use Rattle.rw_laws.proofs.apply.apply.Goals as goal
+
+pub skeleton-requires : goal.skeleton-requires
+skeleton-requires c = has_pins c.args.context.now c.args.heads.now c.args.spec.now c.args.step.now c.in_ok-premises.premises c.in_ok-premises.ensures.ok
+
+pub returns-clause-ok : goal.returns-clause-ok
+returns-clause-ok c =
+    let q = c.in_ok-premises.premises in
+    subst (λ s. FitsWith (law_of c.args.context.now c.args.heads.now c.args.spec.now c.args.step.now) (λ b. applied s q ≡ b)) (sym c.in_ok-skeleton.ensures)
+    (joined c.args.context.now c.args.heads.now c.args.spec.now c.args.step.now q c.in_ok-premises.ensures.ok)

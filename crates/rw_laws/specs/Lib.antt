@@ -1,0 +1,5 @@
+pub mod Derived
+pub mod Causes
+pub mod Laws
+pub mod Counts
+pub mod Skeletons

@@ -1,0 +1,14 @@
+pub mod Changes
+pub mod Overs
+pub mod Exchanged
+pub mod Layers
+pub mod Ways
+pub mod At
+pub mod Kids
+pub mod Grafts
+pub mod Counts
+pub mod Stepped
+pub mod Certified
+pub mod Making
+pub mod Once
+pub mod There

@@ -1,0 +1,90 @@
+//! Places and edits.
+
+ghost use Rattle.std.specs.Prelude.{◌≡◌, IfOk};
+ghost use Rattle.rw_nodes.specs.Edits.{counts};
+
+use rw_items::Items;
+use rw_laws::step::BasicStep;
+use rw_programs::prog::{Param, Spec};
+use rw_sequents::line::Cert;
+use std::alloc::{AllocError, Global};
+
+/// The name of a tree.
+#[derive(Clone, Copy, Debug, PartialEq, Eq)]
+pub enum TreeName {
+    Main,
+}
+
+/// Kid numbers, from the root downwards, each from 1.
+#[derive(Drop)]
+pub struct Path {
+    pub kids: Items<u32>,
+}
+
+/// A node of a tree.
+#[derive(Drop)]
+pub struct Place {
+    pub tree: TreeName,
+    pub path: Path,
+}
+
+/// A step of a derivation.
+#[derive(Drop)]
+pub enum Step {
+    Basic(BasicStep),
+}
+
+/// What an author sets: `Clear` takes the step of a node away. An obligation's number counts from 1.
+#[derive(Drop)]
+pub enum Edit {
+    Var(Param),
+    Root(Spec),
+    Step(Place, Step),
+    Clear(Place),
+    Prove(Place, u32, Cert),
+}
+
+/// How many kids and how many obligations a step has. It takes no memory.
+pub fn counts(step: &Step) -> (u32, u32)
+    ensures { result ≡ counts step.now }
+{
+    match step {
+        Step::Basic(step) => {
+            let counts = rw_laws::counts::counts(step);
+            (counts.kids, counts.obligations)
+        }
+    }
+}
+
+impl Step {
+    /// The same step again.
+    pub fn copy(&self, alloc: Global) -> Result<Step, AllocError>
+        ensures { IfOk result (λ s. s ≡ self.now) }
+    {
+        match self {
+            Step::Basic(step) => Ok(Step::Basic(step.copy(alloc)?)),
+        }
+    }
+}
+
+impl Path {
+    /// The same path again.
+    pub fn copy(&self, alloc: Global) -> Result<Path, AllocError>
+        ensures { IfOk result (λ p. p ≡ self.now) }
+    {
+        let kids = Items::from_slice(alloc, self.kids.as_slice())?;
+        Ok(Path { kids })
+    }
+}
+
+impl Place {
+    /// The same place again.
+    pub fn copy(&self, alloc: Global) -> Result<Place, AllocError>
+        ensures { IfOk result (λ p. p ≡ self.now) }
+    {
+        Ok(Place {
+            tree: self.tree,
+            path: self.path.copy(alloc)?,
+        })
+    }
+}

@@ -1,0 +1,53 @@
+-- What the basic laws promise: where the obligations are valid and the kids' programs refine the kids' specifications, the filled
+-- skeleton refines the parent.
+use Rattle.std.specs.Prelude.{◌≡◌, ℕ, suc, true, false, is_some, List, [], ◌∷◌}
+use Rattle.rw_terms.specs.declared.scope.Entry.{Entry}
+use Rattle.rw_terms.specs.declared.scope.Head.{Head}
+use Rattle.rw_terms.specs.Sorts.{variable_sort}
+use Rattle.rw_terms.specs.State.{State as Map}
+use Rattle.rw_terms.specs.WellFormed.{IsFormed}
+use Rattle.rw_terms.specs.Validity.{Each, Valid}
+use Rattle.rw_faults.specs.Initial.{is_twice, initial_outside}
+use Rattle.rw_programs.specs.declared.prog.Spec.{Spec}
+use Rattle.rw_programs.specs.declared.prog.Prog.{Prog}
+use Rattle.rw_programs.specs.declared.prog.Prog.TheVariants as prog
+use Rattle.rw_programs.specs.declared.applied.Context.{Context}
+use Rattle.rw_programs.specs.declared.applied.Child.{Child}
+use Rattle.rw_programs.specs.declared.applied.Applied.{Applied}
+use Rattle.rw_programs.specs.State.{Name, is_in}
+use Rattle.rw_programs.specs.Tables.{Table}
+use Rattle.rw_programs.specs.Refine.{is_value, RefinesGiven}
+use Rattle.rw_meaning.specs.Filling.{fill}
+use Rattle.rw_laws.specs.declared.step.BasicStep.{BasicStep}
+use Rattle.rw_laws.specs.Laws.{fits, law_of}
+
+-- A specification that is well-formed in a scope: the frame's names differ, are variables, and are not of kind value; no initial
+-- variable stands in the precondition, and in the postcondition only those of the frame.
+pub record IsReady (scope : List Entry) (heads : List Head) (w : Spec) : Type 0 where
+  pub pre : IsFormed scope heads w.pre
+  pub post : IsFormed scope heads w.post
+  pub variables : (x : Name) → is_in x w.frame ≡ true → is_some (variable_sort scope x) ≡ true
+  pub no_values : (x : Name) → is_in x w.frame ≡ true → is_value scope x ≡ false
+  pub differ : is_twice w.frame ≡ false
+  pub no_initial : initial_outside [] w.pre ≡ false
+  pub initial : initial_outside w.frame w.post ≡ false
+
+-- Each kid's program, from a number on, refines the kid's specification where it stands, at every state with these values of the
+-- names of kind value.
+abbrev pub KidsMeet : Map → Table → (p k : ℕ) → (ℕ → Prog) → ℕ → List Child → Type 0
+KidsMeet fixed E p k kids n [] = Unit {0}
+KidsMeet fixed E p k kids n (c ∷ more) = RefinesGiven fixed c.context.scope E p k (prog.Spec c.spec) E p k (kids n) × KidsMeet fixed E p k kids (suc n) more
+
+-- For any table and place, any number of own calls, and any programs of the kids: where all obligations are valid and the kids'
+-- programs refine their specifications, the filled skeleton refines the parent.
+abbrev pub LawsAreSound : Type 0
+LawsAreSound =
+    (context : Context) (heads : List Head) (w : Spec) (s : BasicStep) (a : Applied) → IsReady context.scope heads w → law_of context heads w s ≡ fits a →
+    (fixed : Map) (E : Table) (p k : ℕ) (kids : ℕ → Prog) → Each (Valid E.library) a.obligations → KidsMeet fixed E p k kids 1 a.children →
+    RefinesGiven fixed context.scope E p k (prog.Spec w) E p k (fill kids a.skeleton)
+
+-- where the law of a step fits a well-formed specification, the kids' specifications are well-formed where they stand
+abbrev pub KidsAreReady : Type 0
+KidsAreReady =
+    (context : Context) (heads : List Head) (w : Spec) (s : BasicStep) (a : Applied) → IsReady context.scope heads w → law_of context heads w s ≡ fits a →
+    Each (λ c. IsReady c.context.scope heads c.spec) a.children

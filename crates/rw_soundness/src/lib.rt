@@ -1,0 +1,16 @@
+//! The basic laws are sound. A caller learns it from the contracts; the calls do nothing.
+#![tactic(auto)]
+
+ghost use Rattle.rw_soundness.specs.Sound.{LawsAreSound, KidsAreReady};
+
+/// Where the law of a step fits a well-formed specification, the obligations are valid, and the kids' programs refine the kids'
+/// specifications, the filled skeleton refines the parent: under any table, at any place, with any number of own calls, and for any
+/// programs of the kids.
+pub fn soundness()
+    ensures { LawsAreSound }
+{}
+
+/// Where the law of a step fits a well-formed specification, the kids' specifications are well-formed where they stand.
+pub fn kids()
+    ensures { KidsAreReady }
+{}
