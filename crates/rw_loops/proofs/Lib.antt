@@ -1,0 +1,12 @@
+pub mod AlternationLaw
+pub mod BlockLaw
+pub mod Fitting
+pub mod GuardLemmas
+pub mod IterationLaw
+pub mod Placed
+pub mod Plain
+pub mod Rows
+pub mod Samely
+pub mod SoundLaws
+pub mod Standing
+pub mod Variant
