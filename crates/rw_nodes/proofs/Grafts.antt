@@ -49,10 +49,10 @@ changed_twice f g n (k ∷ p) =
     let both : Option Node = option_map (λ kid. changed (λ m. f (g m)) kid p) (numbered kids k) in
     let inside : (out-Node mid).kids ≡ put_at kids k first = simp out-roll-Node in
     let second : option_map (λ kid. changed f kid p) (numbered (out-Node mid).kids k) ≡ both =
-      ap (λ ks. option_map (λ kid. changed f kid p) (numbered ks k)) inside
-      ∙ ap (option_map (λ kid. changed f kid p)) (numbered-put_same (λ kid. changed g kid p) kids k)
-      ∙ map_map (λ kid. changed g kid p) (λ kid. changed f kid p) (numbered kids k)
-      ∙ map_cong _ _ (λ kid. changed_twice f g kid p) (numbered kids k) in
+    ap (λ ks. option_map (λ kid. changed f kid p) (numbered ks k)) inside
+    ∙ ap (option_map (λ kid. changed f kid p)) (numbered-put_same (λ kid. changed g kid p) kids k)
+    ∙ map_map (λ kid. changed g kid p) (λ kid. changed f kid p) (numbered kids k)
+    ∙ map_cong _ _ (λ kid. changed_twice f g kid p) (numbered kids k) in
     ap (λ o. with_kids mid (put_at (out-Node mid).kids k o)) second
     ∙ ap (λ ks. with_kids mid (put_at ks k both)) inside
     ∙ ap (with_kids mid) (put_twice kids k first both (map_none _ _ (numbered kids k)))
@@ -77,7 +77,7 @@ changed_none : (f : Node → Node) (n m : Node) (p : List ℕ) → look n p ≡ 
 changed_none f n m [] e same = let is : n ≡ m = cc in ap f is ∙ same ∙ sym is
 changed_none f n m (k ∷ p) e same =
     ap (with_kids n) (put_back (λ kid. changed f kid p) (out-Node n).kids k
-      (λ kid is. changed_none f kid m p (sym (ap (option_and_then (λ kid. look kid p)) is) ∙ e) same))
+    (λ kid is. changed_none f kid m p (sym (ap (option_and_then (λ kid. look kid p)) is) ∙ e) same))
     ∙ roll-out-Node n
 
 -- a graft of the rest of the old node puts all back

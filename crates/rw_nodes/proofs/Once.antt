@@ -79,7 +79,6 @@ once_at y m s =
 pub node_once : (n : Node) → Once n
 node_once = ind-Node Once (λ x y is. subst (λ z. Once (roll-Node z)) is (once_at y))
 
-
 pub made_once : (limit : ℕ) (l : List Edit) (one other : Parts) → Makes limit l one → Makes limit l other → one ≡ other
 made_once limit l one other a b =
     let tops : one.main ≡ other.main = node_once one.main other.main (record {

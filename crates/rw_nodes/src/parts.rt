@@ -38,23 +38,19 @@ impl Parts {
 /// A list of edits makes one project.
 pub fn made_once()
     ensures { (most : ℕ) (l : List Edit) (one other : Parts) → Makes most l one → Makes most l other → one ≡ other }
-{
-}
+{}
 
 /// An edit of a node or an obligation that is there makes the project of the longer list.
 pub fn made_by()
     ensures { (most : ℕ) (l : List Edit) (e : Edit) (parts : Parts) → Makes most l parts → IsPlaced parts.main e → Makes most (e ∷ l) (applied_to parts e) }
-{
-}
+{}
 
 /// The nodes of a project are those that the list of edits has.
 pub fn nodes_there()
     ensures { (most : ℕ) (l : List Edit) (parts : Parts) (p : List ℕ) → Makes most l parts → is_some (look parts.main p) ≡ is_node l p }
-{
-}
+{}
 
 /// The obligations of a project are those that the list of edits has.
 pub fn obligations_there()
     ensures { (most : ℕ) (l : List Edit) (parts : Parts) (p : List ℕ) (k : ℕ) → Makes most l parts → has_obligation parts.main p k ≡ is_node l p && has_obligation_of l p k }
-{
-}
+{}

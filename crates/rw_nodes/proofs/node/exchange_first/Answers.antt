@@ -24,18 +24,18 @@ pub loop-i-preserved : goal.loop-i-preserved
 loop-i-preserved g c =
     let next : suc c.loop-i.i ≡ c.loop-i.i + 1 = omega arith in
     let mine : slice_get c.args.one.now c.loop-i.i ≡ Some c.item_mut.result.now =
-      sym (get_next c.args.one.now c.args.other.now c.loop-i.i) ∙ ap (λ xs. slice_get xs c.loop-i.i) (sym c.loop-i.invariant.one) ∙ c.item_mut.ensures.value in
+    sym (get_next c.args.one.now c.args.other.now c.loop-i.i) ∙ ap (λ xs. slice_get xs c.loop-i.i) (sym c.loop-i.invariant.one) ∙ c.item_mut.ensures.value in
     let theirs : slice_get c.args.other.now c.loop-i.i ≡ Some c.item_mut-in-loop-i.result.now =
-      sym (get_next c.args.other.now c.args.one.now c.loop-i.i) ∙ ap (λ xs. slice_get xs c.loop-i.i) (sym c.loop-i.invariant.other) ∙ c.item_mut-in-loop-i.ensures.value in
+    sym (get_next c.args.other.now c.args.one.now c.loop-i.i) ∙ ap (λ xs. slice_get xs c.loop-i.i) (sym c.loop-i.invariant.other) ∙ c.item_mut-in-loop-i.ensures.value in
     record {
       one = ap (set c.loop-i.one c.loop-i.i) c.swap.ensures.x_after
-        ∙ ap (λ xs. set xs c.loop-i.i c.item_mut-in-loop-i.result.now) c.loop-i.invariant.one
-        ∙ set_next c.args.one.now c.args.other.now c.loop-i.i c.item_mut-in-loop-i.result.now theirs
-        ∙ ap (λ n. over c.args.one.now (take n c.args.other.now)) next;
+          ∙ ap (λ xs. set xs c.loop-i.i c.item_mut-in-loop-i.result.now) c.loop-i.invariant.one
+          ∙ set_next c.args.one.now c.args.other.now c.loop-i.i c.item_mut-in-loop-i.result.now theirs
+          ∙ ap (λ n. over c.args.one.now (take n c.args.other.now)) next;
       other = ap (set c.loop-i.other c.loop-i.i) c.swap.ensures.y_after
-        ∙ ap (λ xs. set xs c.loop-i.i c.item_mut.result.now) c.loop-i.invariant.other
-        ∙ set_next c.args.other.now c.args.one.now c.loop-i.i c.item_mut.result.now mine
-        ∙ ap (λ n. over c.args.other.now (take n c.args.one.now)) next;
+          ∙ ap (λ xs. set xs c.loop-i.i c.item_mut.result.now) c.loop-i.invariant.other
+          ∙ set_next c.args.other.now c.args.one.now c.loop-i.i c.item_mut.result.now mine
+          ∙ ap (λ n. over c.args.other.now (take n c.args.one.now)) next;
     }
 
 pub returns-clause-one : goal.returns-clause-one
