@@ -207,8 +207,8 @@ fn first_kid(
 ) -> Result<Child, Fail> {
     let applied = apply(alloc, context, &[], spec, step)?;
     let mut children = applied.children;
-    while children.len() > 1 {
-        let _later = children.pop();
+    if children.len() > 1 {
+        let _second = children.pop();
     }
     Ok(children.pop().ok_or("no kid")?)
 }
