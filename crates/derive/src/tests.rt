@@ -207,6 +207,7 @@ fn good_certificates_close_the_derivation(rt: HostRuntime) -> Result<(), Fail> {
             "lin [1*L1] [1/2] [-1*L1] [3/2] [1*2 + 1*4]",
         ),
         ("x:[x = 1 and y = 2, y = 2]", "andL 1 ; ax"),
+        ("x,y:[true, y = y and x = x]", "andR 1 ; refl ; refl"),
         ("x:[true, forall i:int . i = i]", "allR 1 y ; refl"),
         ("x:[exists i:int . i < x, 0 = 0]", "exL 1 y ; refl"),
         ("x:[forall i:int . i < x, x < x]", "allL 1 x ; ax"),
