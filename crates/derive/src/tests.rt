@@ -259,6 +259,35 @@ fn false_certificates_are_told_by_line_and_cause(rt: HostRuntime) -> Result<(), 
     statuses_by(&rt, rt.alloc(), &rows)
 }
 
+// A formula 61 negations deep.
+fn buried(alloc: Global, formula: &str) -> Result<String, Fail> {
+    let mut text = String::new(alloc);
+    for _ in 0..61 {
+        text.push_str("not ")?;
+    }
+    text.push_str(formula)?;
+    Ok(text)
+}
+
+#[test]
+fn rules_make_no_formula_past_depth_64(rt: HostRuntime) -> Result<(), Fail> {
+    let alloc = rt.alloc();
+    let deep = buried(alloc, "i = x")?;
+    let all = format!(in alloc; "x:[forall i:int . {deep}, true]")?;
+    let any = format!(in alloc; "x:[true, exists i:int . {deep}]")?;
+    let deep = buried(alloc, "x = y")?;
+    let left = format!(in alloc; "x:[x = y + 1 + 1 and {deep}, true]")?;
+    let right = format!(in alloc; "x:[x = y + 1 + 1, {deep}]")?;
+    are_closed(&rt, alloc, &[(all.as_str(), "allL 1 x + 1 ; trueR")])?;
+    let rows = [
+        (all.as_str(), "allL 1 x + 1 + 1", "1 7"),
+        (any.as_str(), "exR 1 x + 1 + 1", "1 7"),
+        (left.as_str(), "andL 1 ; rwL 1 2", "2 7"),
+        (right.as_str(), "rwR 1 1", "1 7"),
+    ];
+    statuses_by(&rt, alloc, &rows)
+}
+
 #[test]
 fn rules_of_terms_fail_by_their_causes(rt: HostRuntime) -> Result<(), Fail> {
     let root = "x:[exists i:int . i = 1, x = 1]";
