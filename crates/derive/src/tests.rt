@@ -278,12 +278,22 @@ fn rules_make_no_formula_past_depth_64(rt: HostRuntime) -> Result<(), Fail> {
     let deep = buried(alloc, "x = y")?;
     let left = format!(in alloc; "x:[x = y + 1 + 1 and {deep}, true]")?;
     let right = format!(in alloc; "x:[x = y + 1 + 1, {deep}]")?;
+    let term = nested(alloc, 61, "- ", "x", "")?;
+    let arrays = "x:[a = b, b = a and x = x]";
+    let same = format!(in alloc; "putSame a, {term}, 1")?;
+    let other = format!(in alloc; "putOther a, {term}, 1, x")?;
+    let extent = format!(in alloc; "arrExt put(a, {term}, 1), b")?;
+    let divided = format!(in alloc; "divMod {term}, 2")?;
     are_closed(&rt, alloc, &[(all.as_str(), "allL 1 x + 1 ; trueR")])?;
     let rows = [
         (all.as_str(), "allL 1 x + 1 + 1", "1 7"),
         (any.as_str(), "exR 1 x + 1 + 1", "1 7"),
         (left.as_str(), "andL 1 ; rwL 1 2", "2 7"),
         (right.as_str(), "rwR 1 1", "1 7"),
+        (arrays, same.as_str(), "1 7"),
+        (arrays, other.as_str(), "1 7"),
+        (arrays, extent.as_str(), "1 7"),
+        (arrays, divided.as_str(), "1 7"),
     ];
     statuses_by(&rt, alloc, &rows)
 }
@@ -292,7 +302,9 @@ fn rules_make_no_formula_past_depth_64(rt: HostRuntime) -> Result<(), Fail> {
 fn rules_of_terms_fail_by_their_causes(rt: HostRuntime) -> Result<(), Fail> {
     let root = "x:[exists i:int . i = 1, x = 1]";
     let arrays = "x:[a = b, b = a and x = x]";
+    let known = "x:[true, forall i:int . i = x]";
     let rows = [
+        (known, "allR 1 x", "1 5"),
         (root, "exL 1 x ; ax", "1 5"),
         (root, "exL 1 y ; ax", "2 4"),
         (root, "exL 2 y", "1 3"),
