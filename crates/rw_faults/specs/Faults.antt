@@ -74,6 +74,25 @@ module _ (scope : List Entry) where
     abbrev pub unknown_in : Formula → Option (List ℕ)
     unknown_in = fold-Formula (Option (List ℕ)) formula_unknown_step
 
+module _ (heads : List Head) where
+  abbrev pub predicate_step : Formula-F (Option (List ℕ)) → Option (List ℕ)
+  predicate_step Formula-F.True = None
+  predicate_step Formula-F.False = None
+  predicate_step (Formula-F.Eq t u) = None
+  predicate_step (Formula-F.Less t u) = None
+  predicate_step (Formula-F.AtMost t u) = None
+  predicate_step (Formula-F.Not f) = f
+  predicate_step (Formula-F.And f g) = first_name f g
+  predicate_step (Formula-F.Or f g) = first_name f g
+  predicate_step (Formula-F.Imp f g) = first_name f g
+  predicate_step (Formula-F.All _ f) = f
+  predicate_step (Formula-F.Any _ f) = f
+  predicate_step (Formula-F.App p args) = unknown_predicate (find (is_head p) heads) p None
+
+  -- the first predicate in preorder that has no head
+  abbrev pub predicate_unknown_in : Formula → Option (List ℕ)
+  predicate_unknown_in = fold-Formula (Option (List ℕ)) predicate_step
+
 abbrev pub leaf : Option Sort → Bool → Checked
 leaf sort bad = record { sort = sort; bad = bad }
 

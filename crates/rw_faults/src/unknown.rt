@@ -1,7 +1,7 @@
 //! Names that are not known.
 
 ghost use Rattle.std.specs.Prelude.{◌≡◌, map};
-ghost use Rattle.rw_faults.specs.Faults.{unless_known, first_of_names, unknown_in_term, unknown_in};
+ghost use Rattle.rw_faults.specs.Faults.{unless_known, first_of_names, unknown_in_term, unknown_in, predicate_unknown_in};
 
 use rw_terms::formed::find_head;
 use rw_terms::name::Name;
@@ -38,6 +38,34 @@ pub fn unknown_in(scope: &Scope, heads: &[Head], formula: &Formula) -> Option<Na
         }
         Formula::App(p, args) => match find_head(heads, p) {
             Some(_) => unknown_in_terms(scope, args.as_slice()),
+            None => Some(p.copy()),
+        },
+    }
+}
+
+/// The first predicate in preorder that has no head. The names in terms are not looked at.
+pub fn predicate_unknown_in(heads: &[Head], formula: &Formula) -> Option<Name>
+    ensures { result ≡ predicate_unknown_in heads.now formula.now }
+{
+    match formula {
+        Formula::True
+        | Formula::False
+        | Formula::Eq(_, _)
+        | Formula::Less(_, _)
+        | Formula::AtMost(_, _) => None,
+        Formula::Not(f) | Formula::All(_, f) | Formula::Any(_, f) => {
+            predicate_unknown_in(heads, f.get())
+        }
+        Formula::And(f, g) | Formula::Or(f, g) | Formula::Imp(f, g) => {
+            let name = predicate_unknown_in(heads, f.get());
+            if name.is_some() {
+                name
+            } else {
+                predicate_unknown_in(heads, g.get())
+            }
+        }
+        Formula::App(p, _) => match find_head(heads, p) {
+            Some(_) => None,
             None => Some(p.copy()),
         },
     }

@@ -1,11 +1,10 @@
 -- The law of alternations is sound.
-use Rattle.std.proofs.Common.{◌≡◌, ℕ, suc, Bool, true, ◌&&◌, None, List, [], ◌∷◌, map, refl, sym, ap, ◌∙◌, subst}
+use Rattle.std.proofs.Common.{◌≡◌, ℕ, suc, true, ◌&&◌, None, List, [], ◌∷◌, map, sym, subst}
 use Rattle.std.specs.List.{list_all}
 use Rattle.rw_terms.specs.declared.term.Formula.{Formula}
 use Rattle.rw_terms.specs.declared.scope.Head.{Head}
 use Rattle.rw_terms.specs.Defined.{GuardDefined}
 use Rattle.rw_terms.specs.State.{State as Map}
-use Rattle.rw_terms.specs.Validity.{Each, Valid}
 use Rattle.rw_subst.proofs.DefiningGuards.{definedness_of_guards}
 use Rattle.rw_programs.specs.declared.prog.Prog.{Prog}
 use Rattle.rw_programs.specs.declared.prog.Spec.{Spec}
@@ -19,8 +18,9 @@ use Rattle.rw_loops.specs.Guards.{disj}
 use Rattle.rw_loops.specs.Code.{code_misfit}
 use Rattle.rw_loops.specs.Limits.{sequent_within, is_within}
 use Rattle.rw_loops.specs.Laws.{if_kid, if_made}
-use Rattle.rw_loops.specs.Sound.{KidsRefine, IsSound}
-use Rattle.rw_loops.proofs.GuardLemmas.{definedness_of_disj, each_defined, some_holds, both_hold, Denies}
+use Rattle.rw_soundness.specs.Sound.{KidsMeet}
+use Rattle.rw_loops.specs.Sound.{IsSound}
+use Rattle.rw_loops.proofs.GuardLemmas.{definedness_of_disj, each_defined, some_holds, both_hold}
 use Rattle.rw_loops.proofs.Plain.{guard_of_code}
 use Rattle.rw_loops.proofs.Placed.{left_true, right_true, small_within, owed_holds, is_code}
 use Rattle.rw_loops.proofs.Rows.{EachArm, if_sure, if_ends}
@@ -39,11 +39,11 @@ module _ (context : Context) (heads : List Head) (w : Spec) (guards : List Formu
     abbrev Arms : (Formula → Prog → Type 0) → ℕ → List Formula → Type 0
     Arms = EachArm E (bodies E p k) (bodies_before E p) ks
 
-    sure_arms : (gs : List Formula) (n : ℕ) → KidsRefine fixed E p k ks n (map (if_kid context w) gs) → Arms (λ g c. Holds E.library g s s → sure_by E (bodies E p k) (bodies_before E p) c s) n gs
+    sure_arms : (gs : List Formula) (n : ℕ) → KidsMeet fixed E p k ks n (map (if_kid context w) gs) → Arms (λ g c. Holds E.library g s s → sure_by E (bodies E p k) (bodies_before E p) c s) n gs
     sure_arms [] n r = tt
     sure_arms (g ∷ gs) n r = ((λ hg. (r.0 s fits has (both_hold E.library s s g w.pre hg h)).0), sure_arms gs (suc n) r.1)
 
-    end_arms : (t : State) (gs : List Formula) (n : ℕ) → KidsRefine fixed E p k ks n (map (if_kid context w) gs)
+    end_arms : (t : State) (gs : List Formula) (n : ℕ) → KidsMeet fixed E p k ks n (map (if_kid context w) gs)
         → Arms (λ g c. Holds E.library g s s → ends_by E (bodies E p k) (bodies_before E p) c s t → Within w.frame s t × Holds E.library w.post s t) n gs
     end_arms t [] n r = tt
     end_arms t (g ∷ gs) n r = ((λ hg e. (r.0 s fits has (both_hold E.library s s g w.pre hg h)).1 t e), end_arms t gs (suc n) r.1)

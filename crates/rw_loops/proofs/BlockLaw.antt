@@ -1,5 +1,5 @@
 -- The law of local blocks is sound.
-use Rattle.std.proofs.Common.{◌≡◌, ℕ, Bool, true, false, ◌||◌, not, is_some, if◌then◌else◌, List, [], ◌∷◌, ◌++◌, find, Option, Some, None, refl, sym, ap, ◌∙◌, subst, true≢false, bytes_eq}
+use Rattle.std.proofs.Common.{◌≡◌, ℕ, Bool, true, false, ◌||◌, not, if◌then◌else◌, List, [], ◌∷◌, ◌++◌, find, Option, Some, None, refl, sym, ap, ◌∙◌, subst, true≢false, bytes_eq}
 use Rattle.rw_terms.specs.declared.scope.Entry.{Entry}
 use Rattle.rw_terms.specs.declared.scope.Head.{Head}
 use Rattle.rw_terms.specs.declared.scope.Kind.TheVariants as kind
@@ -9,7 +9,7 @@ use Rattle.rw_terms.specs.Scopes.{has_name, is_fresh}
 use Rattle.rw_terms.specs.Formed.{is_sort}
 use Rattle.rw_terms.specs.Rules.{keeps_rules}
 use Rattle.rw_terms.specs.Truth.{Definition}
-use Rattle.rw_terms.specs.State.{Value, HasSort, FitsEntry, State as Map, value_in, given}
+use Rattle.rw_terms.specs.State.{Value, HasSort, FitsEntry, State as Map, given}
 use Rattle.rw_subst.specs.declared.slot.Form.{Form}
 use Rattle.rw_subst.specs.declared.slot.Form.TheVariants as form
 use Rattle.rw_subst.specs.Looks.{in_states}
@@ -18,7 +18,6 @@ use Rattle.rw_programs.specs.declared.prog.Prog.{Prog}
 use Rattle.rw_programs.specs.declared.prog.Spec.{Spec}
 use Rattle.rw_programs.specs.declared.prog.Prog.TheVariants as prog
 use Rattle.rw_programs.specs.declared.applied.Context.{Context}
-use Rattle.rw_programs.specs.declared.applied.Misfit.{Misfit}
 use Rattle.rw_programs.specs.declared.applied.Misfit.TheVariants as cause
 use Rattle.rw_programs.specs.State.{Name, State, Fits, Holds, SameSort, Within, is_in, put, with_own}
 use Rattle.rw_programs.specs.Scoped.{with_local, with_entries}
@@ -26,12 +25,12 @@ use Rattle.rw_programs.specs.Tables.{Table}
 use Rattle.rw_programs.specs.Meaning.{Bodies, bodies, bodies_before, MayEnd, Sure, ends_by, sure_by}
 use Rattle.rw_programs.specs.Refine.{is_value, is_value_entry, HasValues}
 use Rattle.rw_meaning.specs.Filling.{fill}
-use Rattle.rw_meaning.proofs.Tests.{same_bytes, bytes_same, other_bytes, fresh_is}
+use Rattle.rw_meaning.proofs.Tests.{same_bytes, fresh_is}
 use Rattle.rw_meaning.proofs.Scopes.{Extends, extends}
 use Rattle.rw_meaning.proofs.Entering.{local_fits}
 use Rattle.rw_loops.specs.Laws.{block_misfit, block_made}
-use Rattle.rw_loops.specs.Sound.{IsPlaced, IsSound}
-use Rattle.rw_loops.proofs.Placed.{not_in_scope, no_variable, variable_in}
+use Rattle.rw_loops.specs.Sound.{IsSound}
+use Rattle.rw_loops.proofs.Placed.{IsPlaced, not_in_scope, no_variable, variable_in}
 use Rattle.rw_loops.proofs.Standing.{states_agree}
 
 -- what a local block is sure of and ends in

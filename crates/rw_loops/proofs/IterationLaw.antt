@@ -1,5 +1,5 @@
 -- The law of loops is sound, and their turns are bounded by the variant.
-use Rattle.std.proofs.Common.{◌≡◌, ℕ, zero, suc, ◌≤◌, ◌+◌, Bool, true, false, ◌&&◌, ◌||◌, not, is_some, if◌then◌else◌, ◌⊎◌, inl, inr, ⊎_elim, List, [], ◌∷◌, map, Option, Some, None, refl, sym, ap, ◌∙◌, subst, true≢false, arith, ℤ, pos, negsuc, ◌+ℤ◌, ◌≤ℤ◌, ◌<ℤ◌, zero-le, reverse, max}
+use Rattle.std.proofs.Common.{◌≡◌, ℕ, zero, suc, ◌≤◌, ◌+◌, Bool, true, false, ◌&&◌, ◌||◌, not, is_some, if◌then◌else◌, ◌⊎◌, inl, inr, ⊎_elim, List, [], ◌∷◌, map, Some, None, refl, sym, ap, ◌∙◌, subst, arith, ℤ, pos, negsuc, ◌+ℤ◌, ◌≤ℤ◌, ◌<ℤ◌, zero-le, reverse, max}
 use Rattle.std.proofs.lemmas.Int.{ints}
 use Rattle.rw_terms.specs.declared.scope.Entry.{Entry}
 use Rattle.rw_terms.specs.declared.scope.Head.{Head}
@@ -20,7 +20,6 @@ use Rattle.rw_terms.specs.Defined.{GuardDefined}
 use Rattle.rw_terms.specs.WellFormed.{IsSmallFormula}
 use Rattle.rw_terms.specs.Rules.{of_ints, sort_in, keeps_step, keeps_rules}
 use Rattle.rw_terms.specs.Truth.{Definition, predicates_of}
-use Rattle.rw_terms.specs.Validity.{Each, Valid}
 use Rattle.rw_terms.proofs.Truths.{to_layer, from_layer}
 use Rattle.rw_subst.proofs.DefiningGuards.{definedness_of_guards}
 use Rattle.rw_subst.proofs.WellSorted.{compared_parts}
@@ -32,23 +31,22 @@ use Rattle.rw_programs.specs.CodeTest.{guard_step, is_guard}
 use Rattle.rw_programs.specs.declared.prog.Prog.{Prog}
 use Rattle.rw_programs.specs.declared.prog.Spec.{Spec}
 use Rattle.rw_programs.specs.declared.applied.Context.{Context}
-use Rattle.rw_programs.specs.declared.applied.Misfit.{Misfit}
 use Rattle.rw_programs.specs.declared.applied.Misfit.TheVariants as cause
 use Rattle.rw_programs.specs.State.{Name, State, Fits, Holds, Within}
 use Rattle.rw_programs.specs.Tables.{Table}
-use Rattle.rw_programs.specs.Meaning.{Bodies, bodies, bodies_before, sure_by, ends_by, Chain}
+use Rattle.rw_programs.specs.Meaning.{bodies, bodies_before, sure_by, ends_by, Chain}
 use Rattle.rw_programs.specs.Refine.{HasValues}
 use Rattle.rw_programs.proofs.Frames.{within_fits, within_refl, within_trans}
 use Rattle.rw_programs.proofs.Rules.{within_values}
-use Rattle.rw_meaning.specs.Filling.{fill}
 use Rattle.rw_loops.specs.Guards.{disj, guards_definedness}
 use Rattle.rw_loops.specs.Code.{code_misfit}
 use Rattle.rw_loops.specs.Laws.{not_below_0, is_less, turn, loop_post, loop_code, do_kid, do_made, do_misfit}
-use Rattle.rw_loops.specs.Sound.{IsPlaced, KidsRefine, IsSound}
+use Rattle.rw_soundness.specs.Sound.{KidsMeet}
+use Rattle.rw_loops.specs.Sound.{IsSound}
 use Rattle.rw_loops.specs.Turns.{at_least_0}
 use Rattle.rw_loops.proofs.GuardLemmas.{Denies, definedness_of_disj, each_defined, some_holds, both_hold}
 use Rattle.rw_loops.proofs.Plain.{guard_of_code}
-use Rattle.rw_loops.proofs.Placed.{left_true, right_true, owed_holds, IsCode, is_code}
+use Rattle.rw_loops.proofs.Placed.{IsPlaced, left_true, right_true, owed_holds, IsCode, is_code}
 use Rattle.rw_loops.proofs.Rows.{EachArm, Turn, turn_ends, do_sure, do_ends}
 use Rattle.rw_loops.proofs.Standing.{none_left, none_right, initial_free}
 use Rattle.rw_loops.proofs.Variant.{value_free, value_before}
@@ -140,7 +138,7 @@ module _ (context : Context) (heads : List Head) (w : Spec) (x : Term) (guards :
   variant_sort : sort_in scope [] x ≡ Some Int
   variant_sort = (compared_parts _ _ (sym (at_most_keeps scope heads (v.Lit (pos 0)) x) ∙ left_true _ _ keeps_parts)).1
 
-  module _ (fixed : Map) (E : Table) (p k : ℕ) (ks : ℕ → Prog) (kids : KidsRefine fixed E p k ks 1 (map (do_kid context w x) guards)) where
+  module _ (fixed : Map) (E : Table) (p k : ℕ) (ks : ℕ → Prog) (kids : KidsMeet fixed E p k ks 1 (map (do_kid context w x) guards)) where
     abbrev number : State → ℤ
     number s = whole (value s.own s.own [] x)
 
@@ -150,12 +148,12 @@ module _ (context : Context) (heads : List Head) (w : Spec) (x : Term) (guards :
     abbrev Step : State → State → Type 0
     Step = Turn E (bodies E p k) (bodies_before E p) ks guards
 
-    sure_arms : (s : State) → Fits scope s → HasValues scope fixed s → Holds E.library w.pre s s → (gs : List Formula) (n : ℕ) → KidsRefine fixed E p k ks n (map (do_kid context w x) gs)
+    sure_arms : (s : State) → Fits scope s → HasValues scope fixed s → Holds E.library w.pre s s → (gs : List Formula) (n : ℕ) → KidsMeet fixed E p k ks n (map (do_kid context w x) gs)
         → Arms (λ g c. Holds E.library g s s → sure_by E (bodies E p k) (bodies_before E p) c s) n gs
     sure_arms s fits has h [] n r = tt
     sure_arms s fits has h (g ∷ gs) n r = ((λ hg. (r.0 s fits has (both_hold E.library s s w.pre g h hg)).0), sure_arms s fits has h gs (suc n) r.1)
 
-    end_arms : (s t : State) → Fits scope s → HasValues scope fixed s → Holds E.library w.pre s s → (gs : List Formula) (n : ℕ) → KidsRefine fixed E p k ks n (map (do_kid context w x) gs)
+    end_arms : (s t : State) → Fits scope s → HasValues scope fixed s → Holds E.library w.pre s s → (gs : List Formula) (n : ℕ) → KidsMeet fixed E p k ks n (map (do_kid context w x) gs)
         → Arms (λ g c. Holds E.library g s s → ends_by E (bodies E p k) (bodies_before E p) c s t → Within w.frame s t × Holds E.library (turn w x) s t) n gs
     end_arms s t fits has h [] n r = tt
     end_arms s t fits has h (g ∷ gs) n r = ((λ hg e. (r.0 s fits has (both_hold E.library s s w.pre g h hg)).1 t e), end_arms s t fits has h gs (suc n) r.1)

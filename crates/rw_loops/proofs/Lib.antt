@@ -3,10 +3,13 @@ pub mod BlockLaw
 pub mod Fitting
 pub mod GuardLemmas
 pub mod IterationLaw
+pub mod Judging
 pub mod Placed
 pub mod Plain
 pub mod Rows
 pub mod Samely
+pub mod Sizes
 pub mod SoundLaws
 pub mod Standing
 pub mod Variant
+pub mod KidsReady

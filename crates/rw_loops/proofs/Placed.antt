@@ -20,16 +20,19 @@ use Rattle.rw_subst.specs.Stands.{stands_in}
 use Rattle.rw_subst.specs.Kinds.{is_allowed_as}
 use Rattle.rw_subst.proofs.KindLemmas.{formula_allowed}
 use Rattle.rw_faults.specs.Limits.{is_small}
-use Rattle.rw_faults.specs.Initial.{initial_outside}
+use Rattle.rw_faults.specs.Initial.{is_twice, initial_outside}
 use Rattle.rw_faults.specs.Faults.{is_ill_sorted, unknown_in}
 use Rattle.rw_faults.proofs.Apart.{faults_apart}
 use Rattle.rw_programs.specs.State.{Name, State, Fits, Holds, is_in}
 use Rattle.rw_programs.specs.CodeTest.{is_guard}
 use Rattle.rw_programs.specs.Scoped.{are_variables}
+use Rattle.rw_programs.specs.declared.prog.Spec.{Spec}
+use Rattle.rw_programs.specs.Laws.{KeepsValues}
 use Rattle.rw_programs.proofs.Skipping.{stable}
-use Rattle.rw_programs.specs.declared.applied.Misfit.{Misfit}
 use Rattle.rw_programs.specs.declared.applied.Misfit.TheVariants as cause
 use Rattle.rw_laws.specs.Laws.{sequent_over}
+use Rattle.rw_meaning.proofs.Tests.{bytes_same}
+use Rattle.rw_soundness.specs.Sound.{IsReady}
 use Rattle.rw_loops.specs.Code.{is_code_in, code_misfit}
 
 pub left_true : (a b : Bool) → (a && b) ≡ true → a ≡ true
@@ -101,3 +104,32 @@ variable_in scope (y ∷ names) x e h = go (bytes_eq x y) refl h (variable_in sc
     go : (b : Bool) → bytes_eq x y ≡ b → (b || is_in x names) ≡ true → (is_in x names ≡ true → is_some (variable_sort scope x) ≡ true) → is_some (variable_sort scope x) ≡ true
     go true i k rest = subst (λ z. is_some (variable_sort scope z) ≡ true) (sym ((bytes_eq-Decides x y).0 i)) (left_true (is_some (variable_sort scope y)) (are_variables scope names) e)
     go false i k rest = rest k
+
+-- A specification that is well-formed where it stands, as the laws use it.
+pub record IsPlaced (scope : List Entry) (heads : List Head) (w : Spec) : Type 0 where
+  pub pre : IsFormed scope heads w.pre
+  pub post : IsFormed scope heads w.post
+  pub variables : are_variables scope w.frame ≡ true
+  pub keeps_values : KeepsValues scope w.frame
+  pub pre_initial : initial_outside [] w.pre ≡ false
+
+all_variables : (scope : List Entry) (names : List Name) → ((x : Name) → is_in x names ≡ true → is_some (variable_sort scope x) ≡ true) → are_variables scope names ≡ true
+all_variables scope [] h = refl
+all_variables scope (y ∷ names) h = both (is_some (variable_sort scope y)) (are_variables scope names) (h y (ap (λ b. b || is_in y names) (bytes_same y y refl))) (all_variables scope names (λ x i. h x (later (bytes_eq x y) (is_in x names) i)))
+  where
+    both : (a b : Bool) → a ≡ true → b ≡ true → (a && b) ≡ true
+    both true b e f = f
+    both false b e f = absurd (true≢false (sym e))
+
+    later : (a b : Bool) → b ≡ true → (a || b) ≡ true
+    later true b i = refl
+    later false b i = i
+
+pub placed : (scope : List Entry) (heads : List Head) (w : Spec) → IsReady scope heads w → IsPlaced scope heads w
+placed scope heads w ready = record {
+  pre = ready.pre;
+  post = ready.post;
+  variables = all_variables scope w.frame ready.variables;
+  keeps_values = ready.no_values;
+  pre_initial = ready.no_initial;
+}

@@ -1,5 +1,5 @@
 -- What a filled alternation or loop does, by its guards and the programs behind them.
-use Rattle.std.proofs.Common.{◌≡◌, refl, ℕ, suc, ◌≤◌, List, [], ◌∷◌, ◌⊎◌, inl, inr}
+use Rattle.std.proofs.Common.{ℕ, suc, ◌≤◌, List, [], ◌∷◌, inl, inr}
 use Rattle.rw_terms.specs.declared.term.Term.{Term}
 use Rattle.rw_terms.specs.declared.term.Formula.{Formula}
 use Rattle.rw_terms.specs.Defined.{GuardDefined}

@@ -1,5 +1,5 @@
 -- Where a formula holds depends on the names that stand in it, each in its form, and on nothing else.
-use Rattle.std.proofs.Common.{◌≡◌, ◌↔◌, ℕ, suc, Bool, true, false, not, ◌||◌, List, [], ◌∷◌, map, slice_get, refl, sym, ap, ◌∙◌, subst, true≢false, bytes_eq, reverse}
+use Rattle.std.proofs.Common.{◌≡◌, ℕ, suc, Bool, true, false, not, ◌||◌, List, [], ◌∷◌, map, slice_get, refl, sym, ap, ◌∙◌, subst, true≢false, reverse}
 use Rattle.std.proofs.lemmas.Slice.Eq.{bytes_eq-Decides}
 use Rattle.rw_terms.specs.declared.term.Term.{Term}
 use Rattle.rw_terms.specs.declared.term.Term.TheVariants.{Bound}
@@ -10,12 +10,10 @@ use Rattle.rw_terms.specs.declared.term.Formula.{Formula}
 use Rattle.rw_terms.specs.declared.term.Formula.TheOpen.{Formula-F}
 use Rattle.rw_terms.specs.declared.term.Formula.TheViews.{roll-Formula}
 use Rattle.rw_terms.specs.declared.term.Formula.TheFolds.{map-Formula, ind-Formula, fold-roll-Formula}
-use Rattle.rw_terms.specs.State.{Value, given, State as Map, value_in}
-use Rattle.rw_terms.specs.Truth.{Definition, holds}
+use Rattle.rw_terms.specs.State.{Value, given}
+use Rattle.rw_terms.specs.Truth.{Definition}
 use Rattle.rw_subst.specs.declared.slot.Form.{Form}
 use Rattle.rw_subst.specs.declared.slot.Form.TheVariants as form
-use Rattle.rw_subst.specs.declared.slot.Slot.TheVariants as slot
-use Rattle.rw_subst.specs.Slots.{is_slot}
 use Rattle.rw_subst.specs.Replaced.{changed_leaves}
 use Rattle.rw_subst.specs.Looks.{Looks, value_of, holds_of, in_states}
 use Rattle.rw_subst.specs.Stands.{stands_step, stands_in_term, stands_in_terms, formula_stands_step, stands_in}

@@ -1,21 +1,20 @@
 -- The variant of a loop before and after a turn.
-use Rattle.std.proofs.Common.{◌≡◌, ℕ, suc, Bool, true, false, ◌&&◌, ◌||◌, is_some, if◌then◌else◌, List, [], ◌∷◌, map, slice_get, Option, Some, None, refl, sym, ap, ◌∙◌, subst, true≢false, bytes_eq, reverse}
+use Rattle.std.proofs.Common.{◌≡◌, Bool, true, false, ◌&&◌, ◌||◌, is_some, if◌then◌else◌, List, [], ◌∷◌, map, Some, refl, sym, ap, ◌∙◌, true≢false, bytes_eq}
 use Rattle.std.proofs.lemmas.Slice.Eq.{bytes_eq-Decides}
 use Rattle.rw_terms.specs.declared.scope.Entry.{Entry}
 use Rattle.rw_terms.specs.declared.term.Term.{Term}
 use Rattle.rw_terms.specs.declared.term.Sort.TheVariants.{Int}
-use Rattle.rw_terms.specs.State.{Value, given, State as Map, value_in}
+use Rattle.rw_terms.specs.State.{given, State as Map, value_in}
 use Rattle.rw_terms.specs.Value.{value}
 use Rattle.rw_terms.specs.Sorts.{variable_sort}
 use Rattle.rw_terms.specs.Rules.{sort_in}
 use Rattle.rw_subst.specs.declared.slot.Form.{Form}
 use Rattle.rw_subst.specs.declared.slot.Form.TheVariants as form
-use Rattle.rw_subst.specs.declared.slot.Slot.{Slot}
 use Rattle.rw_subst.specs.Kinds.{are_allowed}
 use Rattle.rw_subst.specs.Looks.{Looks, value_of, in_states, changed_initial, changed_state}
 use Rattle.rw_subst.specs.Replaced.{replaced_term, changed_leaves, to_initial}
 use Rattle.rw_subst.specs.Stands.{stands_in_term}
-use Rattle.rw_subst.proofs.ClosedTerms.{plain_value, binder_value}
+use Rattle.rw_subst.proofs.ClosedTerms.{plain_value}
 use Rattle.rw_subst.proofs.KindLemmas.{names_of_terms_have_one_kind}
 use Rattle.rw_subst.proofs.Rebuilding.{kept_term}
 use Rattle.rw_subst.proofs.Replacing.{replacement_in_states, initial_changes_are_closed}

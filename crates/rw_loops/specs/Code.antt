@@ -1,5 +1,5 @@
 -- What may stand in the code that a step makes, and the cause why something may not.
-use Rattle.std.specs.Prelude.{Bool, true, false, not, ◌&&◌, ◌||◌, if◌then◌else◌, is_some, List, [], Option, Some, None}
+use Rattle.std.specs.Prelude.{Bool, true, false, not, ◌&&◌, if◌then◌else◌, is_some, List, [], Option, Some, None}
 use Rattle.std.specs.List.{list_any}
 use Rattle.rw_terms.specs.declared.term.Formula.{Formula}
 use Rattle.rw_terms.specs.declared.scope.Entry.{Entry}

@@ -5,6 +5,8 @@ use Rattle.rw_terms.specs.declared.scope.Head.{Head}
 use Rattle.rw_programs.specs.declared.prog.Spec.{Spec}
 use Rattle.rw_programs.specs.declared.applied.Context.{Context}
 use Rattle.rw_programs.specs.declared.applied.Applied.{Applied}
+use Rattle.rw_laws.specs.declared.counts.StepCounts.{StepCounts}
+use Rattle.rw_laws.specs.Counts.{counted}
 use Rattle.rw_laws.specs.Laws.{fits}
 use Rattle.rw_loops.specs.Laws.{law_of}
 use Rattle.rw_loops.specs.declared.step.LoopStep.{LoopStep}
@@ -25,6 +27,9 @@ abbrev pub obligations_of : LoopStep → ℕ
 obligations_of (step.If guards) = 2
 obligations_of (step.Do variant guards) = 1
 obligations_of (step.Block x sort) = 0
+
+abbrev pub counts : LoopStep → StepCounts
+counts step = counted (kids_of step) (obligations_of step)
 
 -- Where the law of a step fits, there are as many kids and obligations as these numbers say.
 abbrev pub CountsAreExact : Type 0

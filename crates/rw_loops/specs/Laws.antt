@@ -21,7 +21,8 @@ use Rattle.rw_programs.specs.declared.applied.Child.{Child}
 use Rattle.rw_programs.specs.declared.applied.Applied.{Applied}
 use Rattle.rw_programs.specs.declared.applied.Misfit.{Misfit}
 use Rattle.rw_programs.specs.declared.applied.Misfit.TheVariants as cause
-use Rattle.rw_laws.specs.Laws.{Law, fits, misfit, sequent_over}
+use Rattle.rw_laws.specs.declared.premises.Premises.{Premises}
+use Rattle.rw_laws.specs.Laws.{Law, fits, misfit, applied, sequent_over}
 use Rattle.rw_loops.specs.declared.step.LoopStep.{LoopStep}
 use Rattle.rw_loops.specs.declared.step.LoopStep.TheVariants as step
 use Rattle.rw_loops.specs.Guards.{disj, guards_definedness}
@@ -43,14 +44,16 @@ abbrev pub if_kid : Context → Spec → Formula → Child
 if_kid context w g = record { context = context; spec = record { frame = w.frame; pre = And g w.pre; post = w.post } }
 
 -- `if`: where the precondition holds, all guards are defined, and one of them holds
-abbrev pub if_made : Context → Spec → List Formula → Applied
-if_made context w guards = record {
-  skeleton = prog.If (arms_from 1 guards);
+abbrev pub if_premises : Context → Spec → List Formula → Premises
+if_premises context w guards = record {
   children = map (if_kid context w) guards;
   obligations =
       sequent_over context.scope (w.pre ∷ []) (guards_definedness context.scope guards ∷ [])
       ∷ sequent_over context.scope (w.pre ∷ []) (disj guards ∷ []) ∷ [];
 }
+
+abbrev pub if_made : Context → Spec → List Formula → Applied
+if_made context w guards = applied (prog.If (arms_from 1 guards)) (if_premises context w guards)
 
 unfoldable pub if_law : Context → List Head → Spec → List Formula → Law
 if_law context heads w guards = law_with (code_misfit context.scope heads (disj guards)) (if_made context w guards)
@@ -80,12 +83,14 @@ abbrev pub do_kid : Context → Spec → Term → Formula → Child
 do_kid context w v g = record { context = context; spec = record { frame = w.frame; pre = And w.pre g; post = turn w v } }
 
 -- `do`: where the invariant holds, all guards are defined
-abbrev pub do_made : Context → Spec → Term → List Formula → Applied
-do_made context w v guards = record {
-  skeleton = prog.Do v (arms_from 1 guards);
+abbrev pub do_premises : Context → Spec → Term → List Formula → Premises
+do_premises context w v guards = record {
   children = map (do_kid context w v) guards;
   obligations = sequent_over context.scope (w.pre ∷ []) (guards_definedness context.scope guards ∷ []) ∷ [];
 }
+
+abbrev pub do_made : Context → Spec → Term → List Formula → Applied
+do_made context w v guards = applied (prog.Do v (arms_from 1 guards)) (do_premises context w v guards)
 
 -- the postcondition is that of a loop, and then the tests of code
 abbrev pub do_misfit : List Entry → List Head → Spec → Term → List Formula → Option Misfit
@@ -104,12 +109,14 @@ with_local context x sort = record {
 }
 
 -- `block`: the kid may change the local too
-abbrev pub block_made : Context → Spec → Name → Sort → Applied
-block_made context w x sort = record {
-  skeleton = prog.Block x sort (prog.Kid 1);
+abbrev pub block_premises : Context → Spec → Name → Sort → Premises
+block_premises context w x sort = record {
   children = record { context = with_local context x sort; spec = record { frame = w.frame ++ x ∷ []; pre = w.pre; post = w.post } } ∷ [];
   obligations = [];
 }
+
+abbrev pub block_made : Context → Spec → Name → Sort → Applied
+block_made context w x sort = applied (prog.Block x sort (prog.Kid 1)) (block_premises context w x sort)
 
 -- the local is new, and has a sort
 abbrev pub block_misfit : List Entry → Name → Sort → Option Misfit
@@ -122,7 +129,7 @@ unfoldable pub block_law : Context → Spec → Name → Sort → Law
 block_law context w x sort = law_with (block_misfit context.scope x sort) (block_made context w x sort)
 
 -- what the law of a step says of a specification in its context
-abbrev pub law_of : Context → List Head → Spec → LoopStep → Law
+unfoldable pub law_of : Context → List Head → Spec → LoopStep → Law
 law_of context heads w (step.If guards) = if_law context heads w guards
 law_of context heads w (step.Do v guards) = do_law context heads w v guards
 law_of context heads w (step.Block x sort) = block_law context w x sort

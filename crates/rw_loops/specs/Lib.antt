@@ -4,5 +4,6 @@ pub mod Code
 pub mod Limits
 pub mod Laws
 pub mod Same
+pub mod Skeletons
 pub mod Sound
 pub mod Turns

@@ -17,7 +17,7 @@ use Rattle.rw_meaning.specs.Filling.{fill}
 use Rattle.rw_laws.specs.Laws.{fits}
 use Rattle.rw_loops.specs.declared.step.LoopStep.TheVariants as step
 use Rattle.rw_loops.specs.Laws.{law_of}
-use Rattle.rw_loops.specs.Sound.{IsPlaced, KidsRefine}
+use Rattle.rw_soundness.specs.Sound.{IsReady, KidsMeet}
 
 -- so many turns of a loop lead from s to t
 abbrev pub Turns : Table → (p k : ℕ) → Prog → ℕ → State → State → Type 0
@@ -33,7 +33,7 @@ at_least_0 (negsuc n) = 0
 -- more turns than the larger of 0 and the value of the variant there.
 abbrev pub TurnsWithinVariant : Type 0
 TurnsWithinVariant =
-    (context : Context) (heads : List Head) (w : Spec) (v : Term) (guards : List Formula) (a : Applied) → IsPlaced context.scope heads w → law_of context heads w (step.Do v guards) ≡ fits a →
-    (fixed : Map) (E : Table) (p k : ℕ) (ks : ℕ → Prog) → KidsRefine fixed E p k ks 1 a.children →
+    (context : Context) (heads : List Head) (w : Spec) (v : Term) (guards : List Formula) (a : Applied) → IsReady context.scope heads w → law_of context heads w (step.Do v guards) ≡ fits a →
+    (fixed : Map) (E : Table) (p k : ℕ) (ks : ℕ → Prog) → KidsMeet fixed E p k ks 1 a.children →
     (s t : State) (n : ℕ) → Fits context.scope s → HasValues context.scope fixed s → Holds E.library w.pre s s →
     Turns E p k (fill ks a.skeleton) n s t → n ≤ at_least_0 (whole (value s.own s.own [] v))

@@ -1,13 +1,18 @@
 //! Laws of what the steps make. A caller learns them from the contract; the calls do nothing.
 
 ghost use Rattle.rw_loops.specs.Counts.{CountsAreExact};
-ghost use Rattle.rw_loops.specs.Sound.{LawsAreSound};
+ghost use Rattle.rw_loops.specs.Sound.{LawsAreSound, KidsAreReady};
 ghost use Rattle.rw_loops.specs.Turns.{TurnsWithinVariant};
 
 /// Where all obligations are valid and what is put for each kid refines the kid's specification in its context, the filled skeleton
 /// refines the parent: for any table, place and number of own calls, and any programs.
 pub fn soundness()
     ensures { LawsAreSound }
+{}
+
+/// Where the law of a step fits a well-formed specification, the kids' specifications are well-formed where they stand.
+pub fn kids()
+    ensures { KidsAreReady }
 {}
 
 /// Take a loop each of whose bodies refines its kid's specification. From a state that fits and meets the invariant, no chain has more

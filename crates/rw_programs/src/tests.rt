@@ -12,7 +12,7 @@ use std::alloc::Global;
 use std::process::Abort;
 use std::test::Fail;
 
-// Programs as they are built from words that stand behind their parts, as `x 1 + set-x`.
+// Programs as they are built from words that stand behind their parts, as `x set-y`.
 #[derive(Drop)]
 struct Stack {
     alloc: Global,
@@ -110,12 +110,6 @@ impl Stack {
         self.push_term(term)
     }
 
-    fn add(&mut self) -> Result<(), Fail> {
-        let b = self.term()?;
-        let a = self.term()?;
-        self.push_term(Term::Add(a, b))
-    }
-
     fn relation(&mut self, word: &str) -> Result<(), Fail> {
         let u = self.term()?;
         let t = self.term()?;
@@ -124,22 +118,6 @@ impl Stack {
             _ => Formula::Less(t.into_inner(), u.into_inner()),
         };
         self.push_formula(formula)
-    }
-
-    fn connective(&mut self, word: &str) -> Result<(), Fail> {
-        let f = self.formula()?;
-        let formula = match word {
-            "not" => Formula::Not(f),
-            "all" => Formula::All(Sort::Int, f),
-            _ => Formula::Any(Sort::Int, f),
-        };
-        self.push_formula(formula)
-    }
-
-    fn apply(&mut self) -> Result<(), Fail> {
-        let t = self.term()?;
-        let args = one_term(self.alloc, t)?;
-        self.push_formula(Formula::App(name("P")?, args))
     }
 
     // A specification of the frame, with a formula for its postcondition.
@@ -173,18 +151,10 @@ impl Stack {
         self.push_prog(Prog::If(arms))
     }
 
-    fn iteration(&mut self) -> Result<(), Fail> {
-        let c = self.prog()?;
-        let g = self.formula()?;
-        let v = self.term()?;
-        let arms = one_arm(self.alloc, g, c)?;
-        self.push_prog(Prog::Do(v.into_inner(), arms))
-    }
-
-    fn block(&mut self, x: &str, sort: Sort) -> Result<(), Fail> {
+    fn block(&mut self, x: &str) -> Result<(), Fail> {
         let c = self.prog()?;
         let x = name(x)?;
-        self.push_prog(Prog::Block(x, sort, c))
+        self.push_prog(Prog::Block(x, Sort::Int, c))
     }
 
     fn constant(&mut self, x: &str) -> Result<(), Fail> {
@@ -194,29 +164,6 @@ impl Stack {
         self.push_prog(Prog::Con(pins, c))
     }
 
-    fn call(&mut self, x: &str) -> Result<(), Fail> {
-        let t = self.term()?;
-        let args = one_term(self.alloc, t)?;
-        let results = one_name(self.alloc, x)?;
-        let f = name("F")?;
-        self.push_prog(Prog::Call(f, args, results))
-    }
-
-    fn operation(&mut self, module: &str) -> Result<(), Fail> {
-        let t = self.term()?;
-        let args = one_term(self.alloc, t)?;
-        let results = one_name(self.alloc, "x")?;
-        let m = name(module)?;
-        let o = name("o")?;
-        self.push_prog(Prog::OpCall(m, o, args, results))
-    }
-
-    fn open(&mut self, module: &str) -> Result<(), Fail> {
-        let c = self.prog()?;
-        let m = name(module)?;
-        self.push_prog(Prog::ModBlock(m, c))
-    }
-
     // The words that end in a name.
     fn named(&mut self, word: &str) -> Result<(), Fail> {
         if let Some(x) = word.strip_prefix("spec-") {
@@ -224,17 +171,9 @@ impl Stack {
         } else if let Some(x) = word.strip_prefix("set-") {
             self.set(x)
         } else if let Some(x) = word.strip_prefix("var-") {
-            self.block(x, Sort::Int)
-        } else if let Some(x) = word.strip_prefix("empty-") {
-            self.block(x, Sort::Array(0))
+            self.block(x)
         } else if let Some(x) = word.strip_prefix("con-") {
             self.constant(x)
-        } else if let Some(x) = word.strip_prefix("call-") {
-            self.call(x)
-        } else if let Some(m) = word.strip_prefix("op-") {
-            self.operation(m)
-        } else if let Some(m) = word.strip_prefix("open-") {
-            self.open(m)
         } else {
             self.leaf(word)
         }
@@ -242,16 +181,12 @@ impl Stack {
 
     fn word(&mut self, word: &str) -> Result<(), Fail> {
         match word {
-            "+" => self.add(),
             "=" | "<" => self.relation(word),
-            "not" | "all" | "any" => self.connective(word),
-            "P" => self.apply(),
             "true" => self.push_formula(Formula::True),
             "kid" => self.push_prog(Prog::Kid(1)),
             "skip" => self.push_prog(Prog::Skip),
             ";" => self.sequence(),
             "if" => self.alternation(),
-            "do" => self.iteration(),
             _ => self.named(word),
         }
     }
@@ -284,37 +219,23 @@ fn what_is_code(rt: HostRuntime) -> Result<(), Fail> {
         ("skip", true),
         ("kid", false),
         ("true spec-x", false),
-        ("x 1 + set-x", true),
+        ("x set-x", true),
         ("x' set-x", false),
-        ("1 K + set-x", false),
+        ("K set-x", false),
         ("skip x set-x ;", true),
         ("kid skip ;", false),
         ("skip kid ;", false),
         ("x 0 < skip if", true),
         ("x 0 < kid if", false),
         ("x' 0 < skip if", false),
-        ("0 K = not skip if", false),
-        ("x P skip if", false),
-        ("x 0 < all skip if", false),
-        ("x 0 < any not skip if", false),
-        ("x 0 x < skip do", true),
-        ("K 0 x < skip do", false),
-        ("x 0 x' < skip do", false),
-        ("x 0 x < kid do", false),
         ("skip var-y", true),
         ("kid var-y", false),
         ("x skip con-D", false),
-        ("x call-x", true),
-        ("K call-x", false),
-        ("x op-M", true),
-        ("x' op-M", false),
-        ("skip open-M", true),
-        ("true spec-x open-M", false),
     ];
     code_is(&rt, rt.alloc(), &cases)
 }
 
-// An integer `x`, an array `a` of 3 cells, and a constant `K`; the module `M` is opened.
+// An integer `x`, an array `a` of 3 cells, and a constant `K`.
 fn context(alloc: Global) -> Result<Context, Fail> {
     let mut scope = Scope::new(alloc);
     for (word, sort, kind) in [
@@ -325,10 +246,9 @@ fn context(alloc: Global) -> Result<Context, Fail> {
         let name = name(word)?;
         scope = scope.with(alloc, Entry { name, sort, kind })?;
     }
-    let opened = one_name(alloc, "M")?;
     Ok(Context {
         scope,
-        opened,
+        opened: Items::new(alloc),
         order: 7,
         inner: false,
     })
@@ -357,7 +277,7 @@ fn names_are_in_scope_with_their_sorts(rt: HostRuntime) -> Result<(), Fail> {
     let cases = [
         ("skip", true),
         ("kid", true),
-        ("x K + set-x", true),
+        ("K set-x", true),
         ("y set-x", false),
         ("D set-x", false),
         ("1 set-y", false),
@@ -365,25 +285,16 @@ fn names_are_in_scope_with_their_sorts(rt: HostRuntime) -> Result<(), Fail> {
         ("K' set-x", false),
         ("a set-a", true),
         ("a set-x", false),
-        ("x a + set-x", false),
         ("x x' = spec-x", true),
         ("x y = spec-x", false),
         ("x a = spec-x", false),
         ("true spec-y", false),
-        ("x P spec-x", true),
-        ("y P spec-x", false),
         ("x set-x y set-x ;", false),
         ("y set-x x set-x ;", false),
         ("x 0 < skip if", true),
         ("y 0 < skip if", false),
         ("a 0 < skip if", false),
         ("x 0 < y set-x if", false),
-        ("x 0 x < skip do", true),
-        ("a 0 x < skip do", false),
-        ("x 0 y < skip do", false),
-        ("x call-x", true),
-        ("y call-x", false),
-        ("x call-y", false),
     ];
     let alloc = rt.alloc();
     let context = context(alloc)?;
@@ -398,19 +309,12 @@ fn blocks_bring_names_and_take_them_away(rt: HostRuntime) -> Result<(), Fail> {
         ("skip var-x", false),
         ("skip var-K", false),
         ("skip var-y var-y", false),
-        ("skip empty-y", false),
         ("x D set-x con-D", true),
         ("x D set-x con-D D set-x ;", false),
         ("a D set-x con-D", false),
         ("y skip con-D", false),
         ("x 1 set-D con-D", false),
         ("D skip con-D", false),
-        ("x op-M", true),
-        ("x op-N", false),
-        ("y op-M", false),
-        ("x op-N open-N", true),
-        ("x op-N open-N x op-N ;", false),
-        ("skip open-M", false),
     ];
     let alloc = rt.alloc();
     let context = context(alloc)?;
@@ -435,8 +339,7 @@ fn copies_are(rt: &impl Abort, alloc: Global, cases: &[(&str, bool)]) -> Result<
 #[test]
 fn copies_are_what_they_copy(rt: HostRuntime) -> Result<(), Fail> {
     let cases = [
-        ("x 0 x < x set-x skip var-y ; do", true),
-        ("x 0 < x call-x x op-M ; open-N if", true),
+        ("x 0 < x set-x skip var-y ; if", true),
         ("x kid con-D", false),
         ("true spec-x", false),
     ];

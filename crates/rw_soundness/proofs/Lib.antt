@@ -18,5 +18,6 @@ pub mod Conditions
 pub mod Unchanged
 pub mod Binders
 pub mod Readiness
+pub mod Longer
 pub mod Widened
 pub mod AllReady

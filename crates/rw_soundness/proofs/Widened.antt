@@ -37,18 +37,7 @@ use Rattle.rw_soundness.proofs.Conditions.{IsFine, fine, and_fine}
 use Rattle.rw_soundness.proofs.Unchanged.{plain_sort, plain_outside, keeps_wider, outside_more, sort_wider}
 use Rattle.rw_soundness.proofs.Binders.{small}
 use Rattle.rw_soundness.proofs.Readiness.{itself, none_listed}
-
--- a name that has a sort is found
-found_by : (scope : List Entry) (g : Form) (x : Name) (s : Sort) → form_sort scope g x ≡ Some s → find (has_name x) scope ≡ None → ⊥
-found_by scope form.Variable x s h n = let clash : None ≡ Some s = sym (ap (option_and_then (λ e. as_variable e.kind e.sort)) n) ∙ h in absurd (cc)
-found_by scope form.Initial x s h n = let clash : None ≡ Some s = sym (ap (option_and_then (λ e. as_variable e.kind e.sort)) n) ∙ h in absurd (cc)
-found_by scope form.Constant x s h n = let clash : None ≡ Some s = sym (ap (option_and_then (λ e. as_constant e.kind e.sort)) n) ∙ h in absurd (cc)
-
--- it has its sort in every scope where it is found as before
-same_form : (scope inner : List Entry) (g : Form) (x : Name) → find (has_name x) inner ≡ find (has_name x) scope → form_sort inner g x ≡ form_sort scope g x
-same_form scope inner form.Variable x e = ap (option_and_then (λ e. as_variable e.kind e.sort)) e
-same_form scope inner form.Initial x e = ap (option_and_then (λ e. as_variable e.kind e.sort)) e
-same_form scope inner form.Constant x e = ap (option_and_then (λ e. as_constant e.kind e.sort)) e
+use Rattle.rw_soundness.proofs.Longer.{found_by, same_form}
 
 module _ (scope : List Entry) (heads : List Head) (w : Spec) (ready : IsReady scope heads w) (pins : List Pin) (es : List Entry) (are : AreFor scope pins es) (fresh : each_is (λ x. is_fresh x scope) (entry_names es) ≡ true) (once : is_twice (entry_names es) ≡ false) (in_scope : (x : Name) → is_in x w.frame ≡ true → find (has_name x) scope ≡ None → ⊥) where
   abbrev pub inner : List Entry
