@@ -3,13 +3,14 @@
 # products. Each status checks the whole certificate again. Run it at the top of the repository; the numbers are in docs/PERFORMANCE.md.
 set -euo pipefail
 cd "$(dirname "$0")/.."
+. benchmarks/seconds.sh
 statuses=${1:-20}
 lines=4095
 
 # $1: the root; $2: one arithmetic line; $3: how many statuses
 script() {
     awk -v root="$1" -v line="$2" -v lines="$lines" -v statuses="$3" 'BEGIN {
-        for (i = 1; i <= 16; i++) { print "var a" i " : int"; print "var b" i " : int" }
+        for (i = 1; i <= 16; i++) { print "var a" i "x : int"; print "var b" i "x : int" }
         print "root " root
         print "step main skip"
         printf "prove main 1 lin"
@@ -17,15 +18,6 @@ script() {
         print ""
         for (i = 0; i < statuses; i++) print "status"
     }'
-}
-
-# the seconds of a run of the script
-seconds() {
-    local from to
-    from=$(date +%s.%N)
-    ./derive batch < "$1" > /dev/null || true
-    to=$(date +%s.%N)
-    awk -v from="$from" -v to="$to" 'BEGIN { print to - from }'
 }
 
 measure() {
@@ -40,10 +32,10 @@ measure() {
 
 product() {
     awk 'BEGIN {
-        for (i = 1; i <= 16; i++) { a = a (i > 1 ? " + " : "") "a" i; b = b (i > 1 ? " + " : "") "b" i }
+        for (i = 1; i <= 16; i++) { a = a (i > 1 ? " + " : "") "a" i "x"; b = b (i > 1 ? " + " : "") "b" i "x" }
         print "(" a ") * (" b ")"
     }'
 }
 
-measure "short lines" ":[a1 = 1, 0 = 1]" "1*L1"
+measure "short lines" ":[a1x = 1, 0 = 1]" "1*L1"
 measure "products of 256 summands" ":[$(product) = 1, 0 = 1]" "1*L1"

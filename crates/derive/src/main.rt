@@ -2,6 +2,10 @@
 #![tactic(auto)]
 
 mod batch;
+#[cfg(test)]
+mod derivations;
+#[cfg(test)]
+mod loops;
 mod output;
 mod replies;
 mod run;

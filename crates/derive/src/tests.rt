@@ -21,8 +21,8 @@ fn answer<I: Source, O: Sink>(
     Ok(top(alloc, &words, input, output, &mut disk, &mut doors))
 }
 
-// Each script with its status and its replies.
-fn answers(rt: &impl Abort, alloc: Global, rows: &[(&str, u8, &str)]) -> Result<(), Fail> {
+/// Each script with its status and its replies.
+pub fn answers(rt: &impl Abort, alloc: Global, rows: &[(&str, u8, &str)]) -> Result<(), Fail> {
     for (script, status, replies) in rows {
         let mut input = MemorySource::new(alloc, script.as_bytes(), 9, &[])?;
         let mut output = MemorySink::new(alloc, 1000, 9, &[])?;
@@ -167,7 +167,6 @@ fn the_greatest_stays_the_greatest(rt: HostRuntime) -> Result<(), Fail> {
     )
 }
 
-// So many fronts, the middle, and as many backs.
 // The status behind a root, skip and a certificate of what skip owes.
 fn status_by(
     rt: &impl Abort,
@@ -330,7 +329,8 @@ fn rules_of_terms_fail_by_their_causes(rt: HostRuntime) -> Result<(), Fail> {
     statuses_by(&rt, rt.alloc(), &rows)
 }
 
-fn nested(
+/// So many fronts, the middle, and as many backs.
+pub fn nested(
     alloc: Global,
     times: u32,
     front: &str,
@@ -348,8 +348,8 @@ fn nested(
     Ok(text)
 }
 
-// A formula of 2 to the power k parts less 1.
-fn balanced(alloc: Global, k: u32) -> Result<String, Fail> {
+/// A formula of 2 to the power k parts less 1.
+pub fn balanced(alloc: Global, k: u32) -> Result<String, Fail> {
     let mut text = String::from_str(alloc, "true")?;
     for _ in 1..k {
         text = format!(in alloc; "({text}) and ({text})")?;
@@ -390,8 +390,8 @@ fn brackets_of_a_request_count_in_the_nest(rt: HostRuntime) -> Result<(), Fail> 
     answers(&rt, alloc, &[(script.as_str(), 1, "E1 syntax 519\n")])
 }
 
-// The last bytes of the output where a line is answered so often.
-fn ends_with(
+/// The last bytes of the output where a line is answered so often.
+pub fn ends_with(
     rt: &impl Abort,
     alloc: Global,
     times: u32,

@@ -11,13 +11,13 @@ use Rattle.rw_nodes.proofs.Stepped.{steps_set, certs_set, shaped_set, made_blank
 use Rattle.rw_nodes.proofs.Certified.{steps_kept, certs_put, shaped_kept}
 
 -- the node that is there
-found : (n : Node) (q : List ℕ) → IsSome (look n q) → (m : Node) × (look n q ≡ Some m)
+pub found : (n : Node) (q : List ℕ) → IsSome (look n q) → (m : Node) × (look n q ≡ Some m)
 found n q h = go (look n q) refl h where
   go : (o : Option Node) → look n q ≡ o → IsSome o → (m : Node) × (look n q ≡ Some m)
   go None is h = absurd (cc)
   go (Some m) is h = (m, is)
 
-found_with : (n : Node) (q : List ℕ) (k : ℕ) → has_obligation n q k ≡ true → (m : Node) × (look n q ≡ Some m) × IsSome (numbered (out-Node m).certs k)
+pub found_with : (n : Node) (q : List ℕ) (k : ℕ) → has_obligation n q k ≡ true → (m : Node) × (look n q ≡ Some m) × IsSome (numbered (out-Node m).certs k)
 found_with n q k h = go (look n q) refl h where
   go : (o : Option Node) → look n q ≡ o → is_some (option_and_then (λ m. numbered (out-Node m).certs k) o) ≡ true → (m : Node) × (look n q ≡ Some m) × IsSome (numbered (out-Node m).certs k)
   go None is h = absurd (cc)

@@ -7,6 +7,7 @@ use Rattle.rw_programs.specs.declared.prog.Param.{Param}
 use Rattle.rw_programs.specs.declared.prog.Spec.{Spec}
 use Rattle.rw_sequents.specs.declared.line.Cert.{Cert}
 use Rattle.rw_laws.specs.Counts.{counts as basic_counts}
+use Rattle.rw_loops.specs.Counts.{kids_of as loop_kids, obligations_of as loop_obligations}
 use Rattle.rw_nodes.specs.declared.edit.Edit.{Edit}
 use Rattle.rw_nodes.specs.declared.edit.Edit.TheVariants as edit
 use Rattle.rw_nodes.specs.declared.edit.Step.{Step}
@@ -23,6 +24,7 @@ is_param params x = list_any (λ p. bytes_eq p.name x) params
 -- how many kids and how many obligations a step has
 abbrev pub counts : Step → ℕ × ℕ
 counts (step.Basic s) = ((basic_counts s).kids, (basic_counts s).obligations)
+counts (step.Loop s) = (loop_kids s, loop_obligations s)
 
 abbrev pub kids_of : Step → ℕ
 kids_of s = (counts s).0

@@ -1,10 +1,11 @@
 //! Places and edits.
 
-ghost use Rattle.std.specs.Prelude.{◌≡◌, IfOk};
-ghost use Rattle.rw_nodes.specs.Edits.{counts};
+ghost use Rattle.std.specs.Prelude.{◌≡◌, ◌≤◌, IfOk};
+ghost use Rattle.rw_nodes.specs.Edits.{counts, kids_of, obligations_of};
 
 use rw_items::Items;
 use rw_laws::step::BasicStep;
+use rw_loops::step::LoopStep;
 use rw_programs::prog::{Param, Spec};
 use rw_sequents::line::Cert;
 use std::alloc::{AllocError, Global};
@@ -32,6 +33,7 @@ pub struct Place {
 #[derive(Drop)]
 pub enum Step {
     Basic(BasicStep),
+    Loop(LoopStep),
 }
 
 /// What an author sets: `Clear` takes the step of a node away. An obligation's number counts from 1.
@@ -46,13 +48,29 @@ pub enum Edit {
 
 /// How many kids and how many obligations a step has. It takes no memory.
 pub fn counts(step: &Step) -> (u32, u32)
+    requires { kids_of step.now ≤ u32.MAX }
     ensures { result ≡ counts step.now }
 {
+    (kids_of(step) as u32, obligations_of(step))
+}
+
+/// How many kids a step has.
+pub fn kids_of(step: &Step) -> usize
+    ensures { result ≡ kids_of step.now }
+{
     match step {
-        Step::Basic(step) => {
-            let counts = rw_laws::counts::counts(step);
-            (counts.kids, counts.obligations)
-        }
+        Step::Basic(step) => rw_laws::counts::counts(step).kids as usize,
+        Step::Loop(step) => rw_loops::counts::kids_of(step),
+    }
+}
+
+/// How many obligations a step has.
+pub fn obligations_of(step: &Step) -> u32
+    ensures { result ≡ obligations_of step.now }
+{
+    match step {
+        Step::Basic(step) => rw_laws::counts::counts(step).obligations,
+        Step::Loop(step) => rw_loops::counts::obligations_of(step),
     }
 }
 
@@ -63,6 +81,7 @@ impl Step {
     {
         match self {
             Step::Basic(step) => Ok(Step::Basic(step.copy(alloc)?)),
+            Step::Loop(step) => Ok(Step::Loop(step.copy(alloc)?)),
         }
     }
 }

@@ -6,7 +6,7 @@ ghost use Rattle.rw_nodes.specs.Nodes.{look, renewed, changed, blank, over, has_
 ghost use Rattle.rw_nodes.specs.Edits.{kids_in, obligations_in};
 ghost use Rattle.rw_nodes.specs.declared.node.Node.{Node};
 
-use crate::edit::{Step, counts};
+use crate::edit::{Step, kids_of, obligations_of};
 use rw_items::{Items, at};
 use rw_sequents::line::Cert;
 use std::alloc::{AllocError, Global};
@@ -123,7 +123,7 @@ pub fn kids_in(step: &Option<Step>) -> usize
     ensures { result ≡ kids_in step.now }
 {
     match step {
-        Some(step) => counts(step).0 as usize,
+        Some(step) => kids_of(step),
         None => 0,
     }
 }
@@ -132,7 +132,7 @@ fn obligations_in(step: &Option<Step>) -> usize
     ensures { result ≡ obligations_in step.now }
 {
     match step {
-        Some(step) => counts(step).1 as usize,
+        Some(step) => obligations_of(step) as usize,
         None => 0,
     }
 }

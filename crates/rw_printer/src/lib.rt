@@ -10,4 +10,4 @@ mod terms;
 #[cfg(test)]
 mod tests;
 
-pub use printing::{print_formula, print_sequent, print_spec, print_term};
+pub use printing::{print_formula, print_sequent, print_spec, print_term, push_sequent, push_spec};

@@ -40,13 +40,20 @@ pub fn print_spec(alloc: Global, spec: &Spec) -> Result<Text, AllocError>
     ensures { IfOk result (λ text. text ≡ spec_text spec.now) }
 {
     let mut text = Text::new(alloc);
-    push_names(&mut text, spec.frame.as_slice())?;
-    text.push_str(":[")?;
-    push_formula(&mut text, 0, &spec.pre)?;
-    text.push_str(", ")?;
-    push_formula(&mut text, 0, &spec.post)?;
-    text.push_str("]")?;
+    push_spec(&mut text, spec)?;
     Ok(text)
+}
+
+/// Writes a specification behind a text.
+pub fn push_spec(text: &mut Text, spec: &Spec) -> Result<(), AllocError>
+    ensures { OnOk result (text.new ≡ text.old ++ spec_text spec.now) }
+{
+    push_names(text, spec.frame.as_slice())?;
+    text.push_str(":[")?;
+    push_formula(text, 0, &spec.pre)?;
+    text.push_str(", ")?;
+    push_formula(text, 0, &spec.post)?;
+    text.push_str("]")
 }
 
 /// The text of a sequent, `F, G |- H`. An empty side is nothing, and its space is left away.
@@ -54,10 +61,17 @@ pub fn print_sequent(alloc: Global, sequent: &Sequent) -> Result<Text, AllocErro
     ensures { IfOk result (λ text. text ≡ sequent_text sequent.now) }
 {
     let mut text = Text::new(alloc);
-    push_left(&mut text, sequent.left.as_slice())?;
-    text.push_str("|-")?;
-    push_right(&mut text, sequent.right.as_slice())?;
+    push_sequent(&mut text, sequent)?;
     Ok(text)
+}
+
+/// Writes a sequent behind a text.
+pub fn push_sequent(text: &mut Text, sequent: &Sequent) -> Result<(), AllocError>
+    ensures { OnOk result (text.new ≡ text.old ++ sequent_text sequent.now) }
+{
+    push_left(text, sequent.left.as_slice())?;
+    text.push_str("|-")?;
+    push_right(text, sequent.right.as_slice())
 }
 
 fn push_left(text: &mut Text, formulas: &[Formula]) -> Result<(), AllocError>

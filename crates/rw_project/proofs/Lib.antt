@@ -1,4 +1,4 @@
 pub mod Cutting
 pub mod Runs
-pub mod Refined
+pub mod Shown
 pub mod Limits

@@ -1,7 +1,9 @@
 -- What the project answers to lines.
-use Rattle.std.specs.Prelude.{ℕ, ◌==◌, ◌||◌, ◌+◌, Bool, true, false, if◌then◌else◌, nat_le, nat_lt, List, [], ◌∷◌, ◌++◌, length, Option, Some, None}
+use Rattle.std.specs.Prelude.{ℕ, ◌==◌, ◌||◌, ◌+◌, Bool, true, false, if◌then◌else◌, nat_le, nat_lt, List, [], ◌∷◌, ◌++◌, length, map, Option, Some, None}
 use Rattle.std.specs.List.{list_all}
-use Rattle.rw_tree.specs.declared.edit.Edit.{Edit}
+use Rattle.rw_nodes.specs.declared.edit.Edit.{Edit}
+use Rattle.rw_nodes.specs.declared.edit.Place.{Place}
+use Rattle.rw_tree.specs.declared.status.NodeMark.{NodeMark}
 use Rattle.rw_tree.specs.declared.refusal.EditRefusal.{EditRefusal}
 use Rattle.rw_tree.specs.declared.refusal.EditRefusal.TheVariants as refusal
 use Rattle.rw_tree.specs.declared.refusal.Which.TheVariants as which
@@ -11,6 +13,7 @@ use Rattle.rw_reader.specs.declared.request.Request.{Request}
 use Rattle.rw_reader.specs.declared.request.Request.TheVariants as request
 use Rattle.rw_reader.specs.Reading.{Reading, reads, fault, reading}
 use Rattle.rw_project.specs.Texts.{accepted_text, refusal_text, syntax_text, closing_text}
+use Rattle.rw_project.specs.Goals.{mark_text, node_text, goal_texts, mark_of}
 
 -- the live edits, the newest first, and how many bytes the lines of all accepted edits had
 abbrev pub History : Type 0
@@ -27,9 +30,13 @@ past_limits edits bytes =
     else if nat_lt 16777216 bytes then Some (refusal.Limit which.Bytes 16777216)
     else None
 
+-- what a project may weigh
+abbrev pub most_weight : ℕ
+most_weight = 2000000
+
 -- the first test that refuses an edit whose line has so many bytes
 abbrev pub refusal_after : History → ℕ → Edit → Option EditRefusal
-refusal_after history bytes edit = or_refusal (past_limits (length history.0) (history.1 + bytes)) (refusal_of history.0 edit)
+refusal_after history bytes edit = or_refusal (past_limits (length history.0) (history.1 + bytes)) (refusal_of most_weight history.0 edit)
 
 -- space, tab and CR
 abbrev pub is_space : ℕ → Bool
@@ -64,10 +71,25 @@ edited history bytes edit None = record {
 }
 edited history bytes edit (Some refusal) = record { after = history; lines = []; end = refusal_text refusal; refused = true }
 
+-- what is told, where nothing is changed
+abbrev pub told : History → List (List ℕ) → List ℕ → Reply
+told history lines end = record { after = history; lines = lines; end = end; refused = false }
+
+-- what is told of the node at a place, if one is there
+abbrev pub told_of : History → Place → (NodeMark → List (List ℕ)) → Option NodeMark → Reply
+told_of history place lines None = record { after = history; lines = []; end = refusal_text (refusal.NoNode place); refused = true }
+told_of history place lines (Some mark) = told history (lines mark) (node_text mark)
+
+abbrev pub no_lines : NodeMark → List (List ℕ)
+no_lines mark = []
+
 -- the statuses are those of checking the live edits anew
 abbrev pub reply_to : History → ℕ → Request → Reply
 reply_to history bytes (request.Edit edit) = edited history bytes edit (refusal_after history bytes edit)
-reply_to history bytes request.Status = record { after = history; lines = []; end = closing_text (anew history.0).nodes; refused = false }
+reply_to history bytes request.Status = told history [] (closing_text (anew history.0).nodes)
+reply_to history bytes (request.StatusAt place) = told_of history place no_lines (mark_of place (anew history.0).nodes)
+reply_to history bytes request.StatusAll = told history (map mark_text (anew history.0).nodes) (closing_text (anew history.0).nodes)
+reply_to history bytes (request.Goal place) = told_of history place goal_texts (mark_of place (anew history.0).nodes)
 
 abbrev pub reply_by : History → ℕ → Reading → Reply
 reply_by history bytes (reads r) = reply_to history bytes r

@@ -2,9 +2,9 @@
 use Rattle.std.specs.Prelude.{ℕ, Bool, true, false, if◌then◌else◌, nat_eq, List, [], ◌∷◌, ◌++◌, codes, decimal}
 use Rattle.rw_programs.specs.declared.applied.Misfit.{Misfit}
 use Rattle.rw_programs.specs.declared.applied.Misfit.TheVariants as misfit
-use Rattle.rw_tree.specs.declared.edit.TreeName.{TreeName}
-use Rattle.rw_tree.specs.declared.edit.TreeName.TheVariants as tree
-use Rattle.rw_tree.specs.declared.edit.Place.{Place}
+use Rattle.rw_nodes.specs.declared.edit.TreeName.{TreeName}
+use Rattle.rw_nodes.specs.declared.edit.TreeName.TheVariants as tree
+use Rattle.rw_nodes.specs.declared.edit.Place.{Place}
 use Rattle.rw_tree.specs.declared.refusal.Which.{Which}
 use Rattle.rw_tree.specs.declared.refusal.Which.TheVariants as which
 use Rattle.rw_tree.specs.declared.refusal.EditRefusal.{EditRefusal}
@@ -79,6 +79,7 @@ refusal_text (refusal.Sort part) = codes "E4 sort " ++ decimal part
 refusal_text (refusal.NoNode place) = codes "E5 no node " ++ place_text place
 refusal_text (refusal.NoObligation k) = codes "E6 no obligation " ++ decimal k
 refusal_text (refusal.Limit w n) = codes "E7 limit " ++ which_text w ++ codes " " ++ decimal n
+refusal_text (refusal.Full w) = codes "E8 full weight " ++ decimal w
 refusal_text refusal.Memory = []
 
 abbrev pub accepted_text : ℕ → List ℕ

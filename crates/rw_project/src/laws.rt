@@ -1,18 +1,16 @@
 // What the definitions mean, in other words. Each law is the contract of a function that does nothing.
 ghost use Rattle.std.specs.Prelude.{◌≡◌, ◌↔◌, ◌++◌, ℕ, List};
-ghost use Rattle.rw_tree.specs.declared.edit.Edit.{Edit};
+ghost use Rattle.rw_nodes.specs.declared.edit.Edit.{Edit};
 ghost use Rattle.rw_tree.specs.Anew.{anew, IsClosed};
 ghost use Rattle.rw_project.specs.Lines.{whole_lines, last_part, with_feeds};
 ghost use Rattle.rw_project.specs.Texts.{closing_text, closed_text};
-ghost use Rattle.rw_project.specs.Headline.{CodeRefinesRoot};
 
 /// The lines that LF ends, each with its LF, and then the rest are the text.
 pub fn lines_are_the_text()
     ensures { (bytes : List ℕ) → with_feeds (whole_lines bytes) ++ last_part bytes ≡ bytes }
 {}
 
-/// A derivation is shown closed exactly where each node is good, and then the collected program refines the root.
-pub fn closed_is_refined()
-    ensures exactly { (l : List Edit) → closing_text (anew l).nodes ≡ closed_text ↔ IsClosed l }
-    ensures refined { (l : List Edit) → IsClosed l → CodeRefinesRoot l }
+/// A derivation is shown closed exactly where each node is good.
+pub fn shown_closed_exactly()
+    ensures { (l : List Edit) → closing_text (anew l).nodes ≡ closed_text ↔ IsClosed l }
 {}

@@ -1,26 +1,30 @@
 // The project, and its replies.
-ghost use Rattle.std.specs.Prelude.{◌≡◌, ◌<◌, ◌≤◌, ◌+◌, ◌∷◌, ◌++◌, ℕ, List, [], None, Some, true, false, length, reverse, Contains, IfOk, IfNone, OnOk, OnErr};
+ghost use Rattle.std.specs.Prelude.{◌≡◌, ◌<◌, ◌≤◌, ◌+◌, ◌∷◌, ◌++◌, ℕ, List, [], None, Some, true, false, length, map, reverse, Contains, IfOk, IfNone, OnOk, OnErr};
 ghost use Rattle.rw_reader.specs.declared.request.Request.TheVariants as request;
 ghost use Rattle.rw_reader.specs.Reading.{reading, reads};
-ghost use Rattle.rw_tree.specs.declared.edit.Edit.{Edit};
-ghost use Rattle.rw_tree.specs.Refusals.{refusal_of, IsGood};
+ghost use Rattle.rw_nodes.specs.declared.edit.Edit.{Edit};
+ghost use Rattle.rw_nodes.specs.Parts.{Makes};
+ghost use Rattle.rw_tree.specs.Refusals.{refusal_of, IsGood, IsProject};
 ghost use Rattle.rw_tree.specs.Anew.{anew};
-ghost use Rattle.rw_tree.specs.Parts.{Makes};
 ghost use Rattle.rw_project.specs.Texts.{closing_text, syntax_text, refusal_text};
-ghost use Rattle.rw_project.specs.Session.{reply, edited, refusal_after, past_limits, no_history};
+ghost use Rattle.rw_project.specs.Goals.{mark_text, goal_texts, mark_of};
+ghost use Rattle.rw_project.specs.Session.{reply, edited, told_of, no_lines, refusal_after, past_limits, no_history};
 ghost use Rattle.rw_project.specs.Headline.{StatusIsAnew};
 ghost use Rattle.rw_project.specs.declared.project.ProjectError.TheVariants.{Memory};
 
-use crate::texts::{accepted_text, closing_text, refusal_text, syntax_text};
+use crate::goals::{goal_texts, mark_of, mark_texts, node_text};
+use crate::texts::{accepted_text, closing_text, no_node_text, refusal_text, syntax_text};
 use rw_items::Items;
+use rw_nodes::edit::{Edit, Place};
+use rw_nodes::parts::Parts;
 use rw_reader::read_request;
 use rw_reader::request::{ReadError, Request};
 use rw_steps::Steps;
 use rw_terms::text::Text;
 use rw_tree::anew::check_anew;
-use rw_tree::edit::Edit;
-use rw_tree::parts::{Parts, apply_edit};
+use rw_tree::apply::apply_edit;
 use rw_tree::refusal::{EditRefusal, TreeError, Which};
+use rw_tree::status::Statuses;
 use std::alloc::{AllocError, Global};
 use std::marker::Model;
 use std::sync::ledger::Ledger;
@@ -30,6 +34,9 @@ use thiserror::Error;
 const MOST_EDITS: u32 = 65536;
 
 const MOST_BYTES: u32 = 16777216;
+
+/// What a project may weigh.
+const MOST_WEIGHT: u32 = 2000000;
 
 /// A project that one session works on: its accepted edits, the derivation that they make, and how many bytes their lines had.
 #[derive(Drop)]
@@ -43,9 +50,9 @@ pub struct Project {
 impl Model for Project {
     ghost use Rattle.std.specs.Prelude.{reverse, ◌≤◌};
     ghost use Rattle.std.specs.Coded.{codes};
-    ghost use Rattle.rw_tree.specs.contracts.edit.Edit as e;
+    ghost use Rattle.rw_nodes.specs.contracts.edit.Edit as e;
     ghost use Rattle.rw_tree.specs.Refusals.{IsGood};
-    ghost use Rattle.rw_tree.specs.Parts.{Makes};
+    ghost use Rattle.rw_nodes.specs.Parts.{Makes};
     ghost use Rattle.rw_project.specs.Session.{History};
 
     ghost Value = { History };
@@ -54,7 +61,7 @@ impl Model for Project {
 
     ghost view = { λ p. (reverse p.edits, p.bytes) };
 
-    ghost invariant = { λ p. Makes (reverse p.edits) p.parts × IsGood (reverse p.edits) × (p.bytes ≤ 16777216) };
+    ghost invariant = { λ p. Makes 2000000 (reverse p.edits) p.parts × IsGood 2000000 (reverse p.edits) × (p.bytes ≤ 16777216) };
 }
 
 /// Why a request got no reply.
@@ -95,7 +102,7 @@ impl Project {
     {
         Project {
             alloc,
-            parts: Parts::empty(alloc),
+            parts: Parts::empty(alloc, MOST_WEIGHT),
             edits: Items::new(alloc),
             bytes: 0,
         }
@@ -123,6 +130,9 @@ impl Project {
         match read_request(self.alloc, line) {
             Ok(Request::Edit(edit)) => self.take(line.len() as u32, edit),
             Ok(Request::Status) => self.tell(steps),
+            Ok(Request::StatusAt(place)) => self.tell_status(&place, steps),
+            Ok(Request::StatusAll) => self.tell_all(steps),
+            Ok(Request::Goal(place)) => self.tell_goal(&place, steps),
             Err(ReadError::Syntax(offset)) => self.misread(offset),
             Err(ReadError::Memory) => Err(ProjectError::Memory),
         }
@@ -162,19 +172,89 @@ impl Project {
         }
     }
 
+    // What checking the live edits anew tells.
+    fn statuses<L: Ledger>(&self, steps: &mut Steps<L>) -> Result<Statuses, ProjectError>
+        ensures { IfOk result (λ s. s ≡ anew self.now.0) }
+    {
+        let statuses = check_anew(self.alloc, &self.parts, steps)?;
+        Ok(statuses)
+    }
+
     // The reply to a request for the status.
     fn tell<L: Ledger>(&self, steps: &mut Steps<L>) -> Result<Reply, ProjectError>
         ensures lines { IfOk result (λ r. r.lines ≡ []) }
         ensures end { IfOk result (λ r. r.end ≡ closing_text (anew self.now.0).nodes) }
         ensures refused { IfOk result (λ r. r.refused ≡ false) }
     {
-        let statuses = check_anew(self.alloc, &self.parts, steps)?;
+        let statuses = self.statuses(steps)?;
         let end = closing_text(self.alloc, statuses.nodes.as_slice())?;
         Ok(Reply {
             lines: Items::new(self.alloc),
             end,
             refused: false,
         })
+    }
+
+    // The reply to a request for the status of each node.
+    fn tell_all<L: Ledger>(&self, steps: &mut Steps<L>) -> Result<Reply, ProjectError>
+        ensures lines { IfOk result (λ r. r.lines ≡ map mark_text (anew self.now.0).nodes) }
+        ensures end { IfOk result (λ r. r.end ≡ closing_text (anew self.now.0).nodes) }
+        ensures refused { IfOk result (λ r. r.refused ≡ false) }
+    {
+        let statuses = self.statuses(steps)?;
+        let lines = mark_texts(self.alloc, statuses.nodes.as_slice())?;
+        let end = closing_text(self.alloc, statuses.nodes.as_slice())?;
+        Ok(Reply {
+            lines,
+            end,
+            refused: false,
+        })
+    }
+
+    // The reply to a request for the status of a node.
+    fn tell_status<L: Ledger>(
+        &self,
+        place: &Place,
+        steps: &mut Steps<L>,
+    ) -> Result<Reply, ProjectError>
+        ensures lines { IfOk result (λ r. r.lines ≡ (told_of self.now place.now no_lines (mark_of place.now (anew self.now.0).nodes)).lines) }
+        ensures end { IfOk result (λ r. r.end ≡ (told_of self.now place.now no_lines (mark_of place.now (anew self.now.0).nodes)).end) }
+        ensures refused { IfOk result (λ r. r.refused ≡ (told_of self.now place.now no_lines (mark_of place.now (anew self.now.0).nodes)).refused) }
+    {
+        let statuses = self.statuses(steps)?;
+        match mark_of(place, statuses.nodes.as_slice()) {
+            Some(mark) => Ok(Reply {
+                lines: Items::new(self.alloc),
+                end: node_text(self.alloc, mark)?,
+                refused: false,
+            }),
+            None => no_node(self.alloc, place),
+        }
+    }
+
+    // The reply to a request for the specification and the obligations of a node.
+    fn tell_goal<L: Ledger>(
+        &self,
+        place: &Place,
+        steps: &mut Steps<L>,
+    ) -> Result<Reply, ProjectError>
+        ensures lines { IfOk result (λ r. r.lines ≡ (told_of self.now place.now goal_texts (mark_of place.now (anew self.now.0).nodes)).lines) }
+        ensures end { IfOk result (λ r. r.end ≡ (told_of self.now place.now goal_texts (mark_of place.now (anew self.now.0).nodes)).end) }
+        ensures refused { IfOk result (λ r. r.refused ≡ (told_of self.now place.now goal_texts (mark_of place.now (anew self.now.0).nodes)).refused) }
+    {
+        let statuses = self.statuses(steps)?;
+        match mark_of(place, statuses.nodes.as_slice()) {
+            Some(mark) => {
+                let lines = goal_texts(self.alloc, mark)?;
+                let end = node_text(self.alloc, mark)?;
+                Ok(Reply {
+                    lines,
+                    end,
+                    refused: false,
+                })
+            }
+            None => no_node(self.alloc, place),
+        }
     }
 
     // The reply to a line that is no request.
@@ -190,6 +270,20 @@ impl Project {
             refused: true,
         })
     }
+}
+
+// The reply where no node is at the place.
+fn no_node(alloc: Global, place: &Place) -> Result<Reply, ProjectError>
+    ensures lines { IfOk result (λ r. r.lines ≡ []) }
+    ensures end { IfOk result (λ r. r.end ≡ refusal_text (EditRefusal.NoNode place.now)) }
+    ensures refused { IfOk result (λ r. r.refused ≡ true) }
+{
+    let end = no_node_text(alloc, place)?;
+    Ok(Reply {
+        lines: Items::new(alloc),
+        end,
+        refused: true,
+    })
 }
 
 // Takes the last item out.
@@ -208,11 +302,12 @@ fn apply(
     edit: &Edit,
     parts: &mut Parts,
 ) -> Result<Reply, ProjectError>
-    requires { before + bytes ≤ u32.MAX }
+    requires sum { before + bytes ≤ u32.MAX }
+    requires made { IsProject parts.old }
     ensures lines { IfOk result (λ r. r.lines ≡ []) }
-    ensures end { IfOk result (λ r. (l : List Edit) → Makes l parts.old → count ≡ length l → r.end ≡ (edited (l, before) bytes edit.now (refusal_after (l, before) bytes edit.now)).end) }
-    ensures refused { IfOk result (λ r. (l : List Edit) → Makes l parts.old → count ≡ length l → r.refused ≡ (edited (l, before) bytes edit.now (refusal_after (l, before) bytes edit.now)).refused) }
-    ensures made { IfOk result (λ r. r.refused ≡ false → (l : List Edit) → Makes l parts.old → Makes (edit.now ∷ l) parts.new × (refusal_of l edit.now ≡ None)) }
+    ensures end { IfOk result (λ r. (l : List Edit) → IsGood 2000000 l → Makes 2000000 l parts.old → count ≡ length l → r.end ≡ (edited (l, before) bytes edit.now (refusal_after (l, before) bytes edit.now)).end) }
+    ensures refused { IfOk result (λ r. (l : List Edit) → IsGood 2000000 l → Makes 2000000 l parts.old → count ≡ length l → r.refused ≡ (edited (l, before) bytes edit.now (refusal_after (l, before) bytes edit.now)).refused) }
+    ensures made { IfOk result (λ r. r.refused ≡ false → (l : List Edit) → IsGood 2000000 l → Makes 2000000 l parts.old → Makes 2000000 (edit.now ∷ l) parts.new × (refusal_of 2000000 l edit.now ≡ None)) }
     ensures room { IfOk result (λ r. r.refused ≡ false → before + bytes ≤ 16777216) }
     ensures same { IfOk result (λ r. r.refused ≡ true → parts.new ≡ parts.old) }
     ensures err { OnErr result (parts.new ≡ parts.old) }

@@ -2,9 +2,9 @@
 ghost use Rattle.std.specs.Prelude.{◌≡◌, ◌++◌, [], ◌∷◌, List, IfOk, OnOk};
 ghost use Rattle.rw_project.specs.Texts.{kids_text, tree_text, place_text, point_text, state_text, misfit_number, status_text, which_text, refusal_text, accepted_text, syntax_text, is_good, closed_text, not_closed_text, closing_text};
 
+use rw_nodes::edit::{Place, TreeName};
 use rw_programs::applied::Misfit;
 use rw_terms::text::Text;
-use rw_tree::edit::{Place, TreeName};
 use rw_tree::refusal::{EditRefusal, Which};
 use rw_tree::status::{NeedState, NodeMark, Status};
 use std::alloc::{AllocError, Global};
@@ -53,6 +53,10 @@ pub fn refusal_text(alloc: Global, refusal: &EditRefusal) -> Result<Text, AllocE
             text.push_number(*number as u64)?;
         }
         EditRefusal::Limit(which, most) => push_limit(&mut text, *which, *most)?,
+        EditRefusal::Full(weight) => {
+            text.push_str("E8 full weight ")?;
+            text.push_number(*weight)?;
+        }
         EditRefusal::Memory => {}
     }
     Ok(text)
@@ -86,6 +90,16 @@ fn push_which(text: &mut Text, which: Which) -> Result<(), AllocError>
         Which::Authors => text.push_str("authors"),
         Which::Steps => text.push_str("steps"),
     }
+}
+
+/// What is answered where no node is at the place.
+pub fn no_node_text(alloc: Global, place: &Place) -> Result<Text, AllocError>
+    ensures { IfOk result (λ text. text ≡ refusal_text (EditRefusal.NoNode place.now)) }
+{
+    let mut text = Text::new(alloc);
+    text.push_str("E5 no node ")?;
+    push_place(&mut text, place)?;
+    Ok(text)
 }
 
 /// `ok closed` where each node is good, and else the first that is not.
@@ -125,7 +139,8 @@ fn not_closed_text(alloc: Global, mark: &NodeMark) -> Result<Text, AllocError>
     Ok(text)
 }
 
-fn push_place(text: &mut Text, place: &Place) -> Result<(), AllocError>
+/// Writes a place behind a text.
+pub fn push_place(text: &mut Text, place: &Place) -> Result<(), AllocError>
     ensures { OnOk result (text.new ≡ text.old ++ place_text place.now) }
 {
     match place.tree {
@@ -150,7 +165,8 @@ fn push_kid(text: &mut Text, kid: u32) -> Result<(), AllocError>
     text.push_number(kid as u64)
 }
 
-fn push_status(text: &mut Text, status: Status) -> Result<(), AllocError>
+/// Writes a status behind a text.
+pub fn push_status(text: &mut Text, status: Status) -> Result<(), AllocError>
     ensures { OnOk result (text.new ≡ text.old ++ status_text status) }
 {
     match status {
@@ -187,7 +203,8 @@ fn misfit_number(misfit: Misfit) -> u64
     }
 }
 
-fn push_state(text: &mut Text, state: NeedState) -> Result<(), AllocError>
+/// Writes an obligation's state behind a text.
+pub fn push_state(text: &mut Text, state: NeedState) -> Result<(), AllocError>
     ensures { OnOk result (text.new ≡ text.old ++ state_text state) }
 {
     match state {

@@ -18,7 +18,7 @@ use Rattle.rw_syntax.proofs.Outside.{advance_stops}
 use Rattle.rw_arith.specs.declared.line.Ref.TheVariants as refs
 use Rattle.rw_reader.specs.Tokens.{Token, text, number, binder}
 use Rattle.rw_reader.specs.Classes.{class_of, AreClasses}
-use Rattle.rw_reader.specs.Forms.{Slot, exactly, a_variable, a_number, a_reference, Filled, filled, is_text, is_variable, Given, Form, gives, takes, either, rest_of, more_of, followed, fewer, behind, AreItems, IsOf}
+use Rattle.rw_reader.specs.Forms.{Slot, exactly, a_variable, a_constant, a_number, a_reference, Filled, filled, is_text, is_variable, is_constant, Given, Form, gives, takes, either, rest_of, more_of, followed, fewer, behind, AreItems, IsOf}
 use Rattle.rw_reader.specs.Reading.{value_of, one_more, ends_class, ends_value, gone_on, after, given}
 use Rattle.rw_reader.proofs.Plain.{plain_tokens}
 
@@ -60,6 +60,7 @@ starts (more_of item sep done k) F t = is_text sep t || starts (k done) F t
 abbrev pub is_met : Slot → Bool
 is_met (exactly w) = true
 is_met a_variable = true
+is_met a_constant = true
 is_met (a_number least most) = leb least most
 is_met a_reference = true
 
@@ -515,9 +516,10 @@ pub record Met (P : Given → Type 0) (f : Form) : Type 0 where
   pub fine : P value
 
 slot_filled : (s : Slot) → is_met s ≡ true → (t : Token) × (x : Filled s) × (filled s t ≡ Some x)
-unfolding is_variable is_name is_reserved reserved
+unfolding is_variable is_constant is_name is_reserved reserved
 slot_filled (exactly w) e = (text w, tt, ap (λ b. cond b (Some tt) None) (is_text_own w))
 slot_filled a_variable e = (text (codes "a"), codes "a", refl)
+slot_filled a_constant e = (text (codes "A"), codes "A", refl)
 slot_filled a_reference e = (number 0, refs.Line 0, refl)
 slot_filled (a_number least most) e = (number least, least, ap (λ b. cond (b && leb least most) (Some least) None) (own least) ∙ ap (λ b. cond b (Some least) None) e)
   where

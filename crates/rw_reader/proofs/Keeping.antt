@@ -7,13 +7,14 @@ use Rattle.rw_terms.specs.declared.term.Sort.TheVariants as sorts
 use Rattle.rw_terms.specs.declared.term.Term.{Term}
 use Rattle.rw_terms.specs.declared.term.Formula.{Formula}
 use Rattle.rw_programs.specs.declared.prog.Spec.{Spec}
+use Rattle.rw_nodes.specs.declared.edit.Place.{Place}
 use Rattle.rw_syntax.specs.Machine.{run_within}
 use Rattle.rw_syntax.specs.declared.state.State.TheVariants.{Wants as wants}
 use Rattle.rw_syntax.specs.Grammar.{as_term, as_formula}
 use Rattle.rw_reader.specs.Tokens.{Token, text}
 use Rattle.rw_reader.specs.Classes.{mark_texts, text_class, class_of}
 use Rattle.rw_reader.specs.Forms.{is_text, Given, Form, gives, takes, a_number, more_of, many}
-use Rattle.rw_reader.specs.Phrases.{formula, term, mark, sort, name_form, name_in, names, frame, bracketed, spec}
+use Rattle.rw_reader.specs.Phrases.{formula, term, mark, sort, name_form, name_in, names, constant_form, constants, frame, bracketed, spec, kid_form, kid_in, kids, place, place_at}
 use Rattle.rw_reader.specs.Reading.{ends_value}
 use Rattle.rw_reader.proofs.Grammar.{text_is, starts, Keeps, keeps_followed}
 
@@ -74,6 +75,18 @@ spec_keeps P F k h = frame_keeps P F (λ xs. bracketed xs k) (λ xs. bracketed_k
 pub term_keeps : (P : Given → Type 0) (F : Token → Bool) (most : ℕ) (k : Term → Form) → ((t : Term) (u : Token) → starts (k t) F u ≡ true → ends_value u ≡ true) → ((t : Term) → Keeps P F (k t)) → Keeps P F (term most k)
 unfolding run_within term
 term_keeps P F most k e h = (omega arith, (wants [], refl), (λ v u. e (as_term v) u), (λ v. h (as_term v)))
+
+pub constants_keep : (P : Given → Type 0) (F : Token → Bool) (k : List (List ℕ) → Form) → ((xs : List (List ℕ)) → starts (k xs) F (text (codes ",")) ≡ false) → ((xs : List (List ℕ)) → Keeps P F (k xs)) → Keeps P F (constants k)
+unfolding constants constant_form
+constants_keep P F k e h = (refl, λ x. ((λ t. true), refl, (λ gs t z. refl), (λ gs. e (map name_in gs)), (refl, λ y. tt), (λ gs. h (map name_in gs))))
+
+pub kids_keep : (P : Given → Type 0) (F : Token → Bool) (k : Place → Form) → ((p : Place) → starts (k p) F (text (codes "/")) ≡ false) → ((p : Place) → Keeps P F (k p)) → Keeps P F (kids k)
+unfolding kids kid_form
+kids_keep P F k e h = ((λ t. true), refl, (λ gs t z. refl), (λ gs. e (place_at (map kid_in gs))), (refl, λ y. tt), (λ gs. h (place_at (map kid_in gs))))
+
+pub place_keeps : (P : Given → Type 0) (F : Token → Bool) (k : Place → Form) → ((p : Place) → starts (k p) F (text (codes "/")) ≡ false) → ((p : Place) → Keeps P F (k p)) → Keeps P F (place k)
+unfolding place
+place_keeps P F k e h = (refl, λ x. kids_keep P F k e h)
 
 -- what stands behind an item that ends with a value: the separator, or what follows the list
 separated : (sep : List ℕ) (F : Token → Bool) (f : Form) (t : Token) (b : Bool) → ends_value (text sep) ≡ true → is_text sep t ≡ b → (b || starts f F t) ≡ true → (starts f F t ≡ true → ends_value t ≡ true) → ends_value t ≡ true

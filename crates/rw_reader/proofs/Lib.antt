@@ -10,6 +10,7 @@ pub mod Expressions
 pub mod Plain
 pub mod Keeping
 pub mod KeepingRules
+pub mod KeepingSteps
 pub mod Requests
 pub mod Values
 pub mod Listing

@@ -1,19 +1,38 @@
 -- The items of the lists of requests.
 use Rattle.std.proofs.Common.{◌≡◌, Bool, true, false, cond, List, [], ◌∷◌, map, ℕ, refl, ap}
 use Rattle.std.specs.Prelude.{codes, leb, pos}
+use Rattle.rw_terms.specs.declared.term.Term.{Term}
+use Rattle.rw_terms.specs.declared.term.Formula.{Formula}
 use Rattle.rw_arith.specs.declared.line.Part.{Part as SumPart}
 use Rattle.rw_arith.specs.declared.line.LinLine.{LinLine}
 use Rattle.rw_arith.specs.declared.line.LinLine.TheVariants as sums
 use Rattle.rw_sequents.specs.declared.line.CertLine.{CertLine}
 use Rattle.rw_sequents.specs.declared.line.CertLine.TheVariants as lines
-use Rattle.rw_reader.specs.Forms.{Given, Form, gives, takes, rest_of, more_of, followed, either, a_name, a_line, a_part, a_sum, a_variable}
-use Rattle.rw_reader.specs.Phrases.{mark, name_form, formula, term}
+use Rattle.rw_reader.specs.Forms.{Given, Form, gives, takes, rest_of, more_of, followed, either, a_name, a_kid, a_term, a_formula, a_line, a_part, a_sum, a_variable, a_constant, a_number}
+use Rattle.rw_reader.specs.Phrases.{mark, name_form, constant_form, kid_form, formula, term}
 use Rattle.rw_reader.specs.Certificates.{numbered, numbered_rules, later_rules, number_and_term, number_and_name, two_numbers, two_terms, put_same, put_other, axioms, instances, any_number, times, sum_part, part_form, sum_of, sum_or_quotient, lin_line, closed_line, lin_form, lin_in, closed_lines, lin, rule, line_form}
+use Rattle.rw_reader.specs.Steps.{term_form, guard_form}
 use Rattle.rw_reader.proofs.Listing.{IsItem}
 
 pub name_item : IsItem {A = List ℕ} name_form (takes a_variable) a_name
 unfolding name_form
 name_item = λ j. refl
+
+pub constant_item : IsItem {A = List ℕ} constant_form (takes a_constant) a_name
+unfolding constant_form
+constant_item = λ j. refl
+
+pub kid_item : IsItem {A = ℕ} kid_form (takes (a_number 1 4294967295)) a_kid
+unfolding kid_form
+kid_item = λ j. refl
+
+pub term_item : IsItem {A = Term} term_form (term 512) a_term
+unfolding term_form term
+term_item = λ j. refl
+
+pub guard_item : IsItem {A = Formula} guard_form (formula 511) a_formula
+unfolding guard_form formula
+guard_item = λ j. refl
 
 pub part_item : IsItem {A = SumPart} part_form sum_part a_part
 unfolding part_form sum_part times

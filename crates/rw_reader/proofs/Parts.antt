@@ -1,12 +1,12 @@
 -- One token of a form, read from a place on.
 use Rattle.std.proofs.Common.{◌≡◌, ℕ, ◌<◌, ◌≤◌, arith, length-drop, Bool, true, false, cond, List, [], ◌∷◌, length, drop, Option, Some, None, IsTrue, refl, sym, ap, ◌∙◌, subst}
-use Rattle.std.specs.Prelude.{◌&&◌, option_map, Result, Ok, Err}
+use Rattle.std.specs.Prelude.{◌&&◌, not, option_map, Result, Ok, Err}
 use Rattle.rw_terms.specs.Names.{is_name}
 use Rattle.std.proofs.lemmas.List.{drop_all}
 use Rattle.rw_reader.specs.declared.request.ReadError.{ReadError}
 use Rattle.rw_reader.specs.declared.request.ReadError.TheVariants.{Syntax}
 use Rattle.rw_reader.specs.Tokens.{Token, token_at}
-use Rattle.rw_reader.specs.Forms.{Slot, Filled, filled, is_text, is_lower, is_variable, Given, Form, gives, takes, either}
+use Rattle.rw_reader.specs.Forms.{Slot, Filled, filled, is_text, is_lower, is_variable, is_constant, Given, Form, gives, takes, either}
 use Rattle.rw_reader.specs.Reading.{after, Ending, whole, stops, ended, token_read, read_within, read_form}
 use Rattle.rw_reader.proofs.Endings.{same_token, open_form, one_token, stuck_form, alike}
 use Rattle.rw_reader.specs.Progress.{IsPlace, StopsAt, Took}
@@ -46,6 +46,25 @@ unfolding is_variable
 no_variable w n = go (is_name w) n
   where
     go : (b : Bool) → ¬ (IsTrue b) → cond (b && is_lower w) (Some w) None ≡ None
+    go true h = absurd (h refl)
+    go false h = refl
+
+-- whether a word is a constant's name
+pub constant_is : (w : List ℕ) → IsTrue (is_name w) → (b : Bool) → is_lower w ≡ b → cond (is_constant w) (Some w) None ≡ cond b None (Some w)
+unfolding is_constant
+constant_is w n b e = ap (λ x. cond (x && not (is_lower w)) (Some w) None) n ∙ turned (is_lower w) b e
+  where
+    turned : (a b : Bool) → a ≡ b → cond (true && not a) (Some w) None ≡ cond b None (Some w)
+    turned true true e = refl
+    turned false false e = refl
+    turned true false e = absurd (cc)
+    turned false true e = absurd (cc)
+
+pub no_constant : (w : List ℕ) → ¬ (IsTrue (is_name w)) → cond (is_constant w) (Some w) None ≡ None
+unfolding is_constant
+no_constant w n = go (is_name w) n
+  where
+    go : (b : Bool) → ¬ (IsTrue b) → cond (b && not (is_lower w)) (Some w) None ≡ None
     go true h = absurd (h refl)
     go false h = refl
 

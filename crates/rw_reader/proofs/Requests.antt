@@ -1,16 +1,20 @@
 -- The forms of requests keep their choices apart.
 use Rattle.std.proofs.Common.{◌≡◌, Bool, true, false, refl, sym, true≢false}
 use Rattle.std.specs.Prelude.{codes}
-use Rattle.rw_tree.specs.declared.edit.Edit.TheVariants as edits
+use Rattle.rw_nodes.specs.declared.edit.Place.{Place}
+use Rattle.rw_nodes.specs.declared.edit.Step.{Step}
+use Rattle.rw_nodes.specs.declared.edit.Edit.TheVariants as edits
 use Rattle.rw_reader.specs.declared.request.Request.{Request}
 use Rattle.rw_reader.specs.declared.request.Request.TheVariants as requests
 use Rattle.rw_reader.specs.Tokens.{Token}
-use Rattle.rw_reader.specs.Forms.{Given, a_request}
-use Rattle.rw_reader.specs.Phrases.{main_tree}
-use Rattle.rw_reader.specs.Requests.{asks, var_form, root_form, step_form, prove_form, request_form}
+use Rattle.rw_reader.specs.Forms.{Given, a_request, Form, gives, takes, either, a_number}
+use Rattle.rw_reader.specs.Certificates.{cert}
+use Rattle.rw_reader.specs.Steps.{step, named_step, constant_step, loop_step}
+use Rattle.rw_reader.specs.Requests.{asks, var_form, root_form, step_form, prove_form, status_form, goal_form, request_form}
 use Rattle.rw_reader.proofs.Grammar.{Keeps}
-use Rattle.rw_reader.proofs.Keeping.{sort_keeps, spec_keeps}
+use Rattle.rw_reader.proofs.Keeping.{sort_keeps, spec_keeps, kids_keep, place_keeps}
 use Rattle.rw_reader.proofs.KeepingRules.{cert_keeps}
+use Rattle.rw_reader.proofs.KeepingSteps.{step_keeps}
 
 abbrev pub IsRequest : Given → Type 0
 IsRequest v = (r : Request) × (v ≡ a_request r)
@@ -27,13 +31,27 @@ root_keeps : Keeps IsRequest nothing root_form
 unfolding root_form
 root_keeps = spec_keeps IsRequest nothing (λ s. asks (requests.Edit (edits.Root s))) (λ s. (_, refl))
 
+step_set_keeps : (p : Place) → Keeps IsRequest nothing (step (λ s. asks (requests.Edit (edits.Step p s))))
+step_set_keeps p = step_keeps IsRequest nothing (λ s. asks (requests.Edit (edits.Step p s))) (record { ends = λ s t e. absurd (true≢false (sym e)); bar = λ s. refl; comma = λ s. refl }) (λ s. (_, refl))
+
+step_form_keeps : Keeps IsRequest nothing step_form
+unfolding step_form step named_step constant_step loop_step
+step_form_keeps = place_keeps IsRequest nothing (λ p. either (codes "open") (asks (requests.Edit (edits.Clear p))) (step (λ s. asks (requests.Edit (edits.Step p s))))) (λ p. refl) (λ p. (refl, (_, refl), step_set_keeps p))
+
 prove_keeps : Keeps IsRequest nothing prove_form
 unfolding prove_form
-prove_keeps = (
-  refl,
-  λ x. (refl, λ n. cert_keeps IsRequest nothing (λ ls. asks (requests.Edit (edits.Prove main_tree n (record { lines = ls })))) (λ ls t e. absurd (true≢false (sym e))) (λ ls. refl) (λ ls. (_, refl))),
-)
+prove_keeps =
+    place_keeps IsRequest nothing (λ p. takes (a_number 0 4294967295) (λ n. cert (λ ls. asks (requests.Edit (edits.Prove p n (record { lines = ls })))))) (λ p. refl)
+    (λ p. (refl, λ n. cert_keeps IsRequest nothing (λ ls. asks (requests.Edit (edits.Prove p n (record { lines = ls })))) (λ ls t e. absurd (true≢false (sym e))) (λ ls. refl) (λ ls. (_, refl))))
+
+status_keeps : Keeps IsRequest nothing status_form
+unfolding status_form
+status_keeps = (refl, (_, refl), (refl, kids_keep IsRequest nothing (λ p. asks (requests.StatusAt p)) (λ p. refl) (λ p. (_, refl)), (_, refl)))
+
+goal_keeps : Keeps IsRequest nothing goal_form
+unfolding goal_form
+goal_keeps = place_keeps IsRequest nothing (λ p. asks (requests.Goal p)) (λ p. refl) (λ p. (_, refl))
 
 pub requests_keep : Keeps IsRequest nothing request_form
-unfolding request_form step_form
-requests_keep = (refl, var_keeps, (refl, root_keeps, (refl, (refl, λ x. (refl, λ y. (_, refl))), (refl, prove_keeps, (refl, λ x. (_, refl))))))
+unfolding request_form
+requests_keep = (refl, var_keeps, (refl, root_keeps, (refl, step_form_keeps, (refl, prove_keeps, (refl, status_keeps, (refl, λ x. goal_keeps))))))

@@ -1,7 +1,9 @@
 -- The grammar of requests: a request is of a form, which says what stands where. A new request is a new form.
-use Rattle.std.specs.Prelude.{◌≡◌, ℕ, zero, suc, ◌+◌, Bool, false, ◌&&◌, cond, leb, eqb, List, [], ◌∷◌, ◌++◌, length, take, Option, Some, None, option_map, option_and_then, IsTrue, bytes_eq, ◌⊎◌}
+use Rattle.std.specs.Prelude.{◌≡◌, ℕ, zero, suc, ◌+◌, Bool, false, not, ◌&&◌, cond, leb, eqb, List, [], ◌∷◌, ◌++◌, length, take, Option, Some, None, option_map, option_and_then, IsTrue, bytes_eq, ◌⊎◌}
 use Rattle.std.specs.List.{list_all}
 use Rattle.rw_terms.specs.Names.{is_name, is_digit}
+use Rattle.rw_terms.specs.declared.term.Term.{Term}
+use Rattle.rw_terms.specs.declared.term.Formula.{Formula}
 use Rattle.rw_arith.specs.declared.line.Ref.{Ref}
 use Rattle.rw_arith.specs.declared.line.Ref.TheVariants as refs
 use Rattle.rw_arith.specs.declared.line.Part.{Part as SumPart}
@@ -21,6 +23,8 @@ pub data Slot : Type 0 where
   exactly : List ℕ → Slot
   -- a name that begins with a lower-case letter
   a_variable : Slot
+  -- a name that begins with an upper-case letter
+  a_constant : Slot
   -- a number from the one to the other
   a_number : ℕ → ℕ → Slot
   -- `L` or `R` and the number of a formula, as one word, or the number of a line
@@ -30,6 +34,7 @@ pub data Slot : Type 0 where
 abbrev pub Filled : Slot → Type 0
 Filled (exactly w) = Unit {0}
 Filled a_variable = List ℕ
+Filled a_constant = List ℕ
 Filled (a_number least most) = ℕ
 Filled a_reference = Ref
 
@@ -41,6 +46,10 @@ is_lower (b ∷ bs) = leb 97 b
 unfoldable pub is_variable : List ℕ → Bool
 is_variable w = is_name w && is_lower w
 
+-- the names of constants
+unfoldable pub is_constant : List ℕ → Bool
+is_constant w = is_name w && not (is_lower w)
+
 -- whether a token is this word or symbol
 abbrev pub is_text : List ℕ → Token → Bool
 is_text w (text v) = bytes_eq v w
@@ -51,6 +60,11 @@ abbrev pub variable_of : Token → Option (List ℕ)
 variable_of (text w) = cond (is_variable w) (Some w) None
 variable_of (number n) = None
 variable_of (binder n) = None
+
+abbrev pub constant_of : Token → Option (List ℕ)
+constant_of (text w) = cond (is_constant w) (Some w) None
+constant_of (number n) = None
+constant_of (binder n) = None
 
 abbrev pub number_within : ℕ → ℕ → Token → Option ℕ
 number_within least most (text w) = None
@@ -80,6 +94,7 @@ reference_of (binder n) = None
 abbrev pub filled : (s : Slot) → Token → Option (Filled s)
 filled (exactly w) t = cond (is_text w t) (Some tt) None
 filled a_variable t = variable_of t
+filled a_constant t = constant_of t
 filled (a_number least most) t = number_within least most t
 filled a_reference t = reference_of t
 
@@ -87,6 +102,9 @@ filled a_reference t = reference_of t
 pub data Given : Type 0 where
   a_request : Request → Given
   a_name : List ℕ → Given
+  a_kid : ℕ → Given
+  a_term : Term → Given
+  a_formula : Formula → Given
   a_line : CertLine → Given
   a_part : SumPart → Given
   a_sum : LinLine → Given

@@ -8,4 +8,5 @@ pub mod Expressions
 pub mod Turns
 pub mod Phrases
 pub mod Certificates
+pub mod Steps
 pub mod Requests

@@ -5,10 +5,10 @@ use Rattle.rw_terms.specs.declared.term.Sort.TheVariants as sorts
 use Rattle.rw_terms.specs.declared.term.Term.{Term}
 use Rattle.rw_terms.specs.declared.term.Formula.{Formula}
 use Rattle.rw_programs.specs.declared.prog.Spec.{Spec}
-use Rattle.rw_tree.specs.declared.edit.TreeName.TheVariants as trees
-use Rattle.rw_tree.specs.declared.edit.Place.{Place}
+use Rattle.rw_nodes.specs.declared.edit.TreeName.TheVariants as trees
+use Rattle.rw_nodes.specs.declared.edit.Place.{Place}
 use Rattle.rw_syntax.specs.Grammar.{as_term, as_formula}
-use Rattle.rw_reader.specs.Forms.{exactly, a_variable, a_number, Given, a_name, Form, gives, takes, either, rest_of, many}
+use Rattle.rw_reader.specs.Forms.{exactly, a_variable, a_constant, a_number, Given, a_request, a_name, a_kid, a_term, a_formula, a_line, a_part, a_sum, Form, gives, takes, either, rest_of, more_of, many}
 
 -- a word or a symbol, and what is to follow it
 abbrev pub mark : List ℕ → Form → Form
@@ -39,6 +39,14 @@ name_form = takes a_variable (λ x. gives (a_name x))
 unfoldable pub names : (List (List ℕ) → Form) → Form
 names k = many name_form (codes ",") (λ gs. k (map name_in gs))
 
+-- a constant as an item
+unfoldable pub constant_form : Form
+constant_form = takes a_constant (λ x. gives (a_name x))
+
+-- constants with commas between them
+unfoldable pub constants : (List (List ℕ) → Form) → Form
+constants k = many constant_form (codes ",") (λ gs. k (map name_in gs))
+
 -- a frame and a colon; an empty frame is written as nothing
 unfoldable pub frame : (List (List ℕ) → Form) → Form
 frame k = either (codes ":") (k []) (names (λ xs. mark (codes ":") (k xs)))
@@ -51,5 +59,21 @@ bracketed xs k = mark (codes "[") (formula 511 (λ f. mark (codes ",") (formula 
 unfoldable pub spec : (Spec → Form) → Form
 spec k = frame (λ xs. bracketed xs k)
 
-abbrev pub main_tree : Place
-main_tree = record { tree = trees.Main; path = record { kids = [] } }
+-- a kid's number as an item
+unfoldable pub kid_form : Form
+kid_form = takes (a_number 1 4294967295) (λ n. gives (a_kid n))
+
+abbrev pub kid_in : Given → ℕ
+kid_in (a_kid n) = n
+kid_in _ = 0
+
+abbrev pub place_at : List ℕ → Place
+place_at ks = record { tree = trees.Main; path = record { kids = ks } }
+
+-- the kid numbers of a place in the main tree, each behind `/`
+unfoldable pub kids : (Place → Form) → Form
+kids k = more_of kid_form (codes "/") [] (λ gs. k (place_at (map kid_in gs)))
+
+-- `main` and the kid numbers
+unfoldable pub place : (Place → Form) → Form
+place k = mark (codes "main") (kids k)

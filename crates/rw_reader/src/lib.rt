@@ -9,6 +9,7 @@ pub mod laws;
 mod reading;
 mod reference;
 pub mod request;
+mod step;
 mod taking;
 pub mod token;
 mod value;

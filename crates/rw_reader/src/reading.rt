@@ -1,22 +1,21 @@
 //! Reads a request.
 
 ghost use Rattle.std.specs.Prelude.{◌≡◌, ℕ, ◌<◌, ◌^◌, ◌⊎◌, length, IfOk, IfErr};
-ghost use Rattle.rw_reader.specs.Phrases.{main_tree};
-ghost use Rattle.rw_reader.specs.Requests.{var_form, root_form, step_form, prove_form};
+ghost use Rattle.rw_reader.specs.Requests.{var_form, root_form, step_form, prove_form, status_form, goal_form};
 ghost use Rattle.rw_reader.specs.Reading.{reading, reads, fault};
 ghost use Rattle.rw_reader.specs.Progress.{IsPlace, Answers};
 ghost use Rattle.rw_reader.specs.declared.request.ReadError.TheVariants as read_error;
 
 use crate::certificate::cert;
 use crate::request::{ReadError, Request};
-use crate::taking::{accept, end, expect, number, sort, variable};
+use crate::step::step;
+use crate::taking::{accept, end, expect, kids, number, place, sort, variable};
 use crate::token::skip;
 use crate::value::spec;
-use rw_items::Items;
+use rw_items::Boxed;
+use rw_nodes::edit::Edit;
 use rw_programs::prog::Param;
 use rw_sequents::line::Cert;
-use rw_skip::step::BasicStep;
-use rw_tree::edit::{Edit, Path, Place, Step, TreeName};
 use std::alloc::Global;
 
 /// Reads a line as a request. Its tokens spell that request; else the fault is told, where its tokens cannot go on.
@@ -39,9 +38,11 @@ pub fn read_request(alloc: Global, line: &[u8]) -> Result<Request, ReadError>
     if accept(line, &mut at, b"prove") {
         return read_prove(alloc, line, at);
     }
-    expect(line, &mut at, b"status")?;
-    end(line, at)?;
-    Ok(Request::Status)
+    if accept(line, &mut at, b"status") {
+        return read_status(alloc, line, at);
+    }
+    expect(line, &mut at, b"goal")?;
+    read_goal(alloc, line, at)
 }
 
 // `NAME : SORT`
@@ -66,40 +67,60 @@ fn read_root(alloc: Global, line: &[u8], mut at: usize) -> Result<Request, ReadE
     Ok(Request::Edit(Edit::Root(spec.into_inner())))
 }
 
-// `main skip`
+// `PLACE STEP`, or `PLACE open`
 fn read_step(alloc: Global, line: &[u8], mut at: usize) -> Result<Request, ReadError>
     requires { IsPlace line.now at }
     ensures { Answers step_form line.now at result }
 {
-    expect(line, &mut at, b"main")?;
-    expect(line, &mut at, b"skip")?;
+    let place = place(alloc, line, &mut at)?;
+    if accept(line, &mut at, b"open") {
+        end(line, at)?;
+        return Ok(Request::Edit(Edit::Clear(place)));
+    }
+    let made = step(alloc, line, &mut at)?;
+    let made = Boxed::new(alloc, made)?;
     end(line, at)?;
-    let step = Step::Basic(BasicStep::Skip);
-    Ok(Request::Edit(Edit::Step(main_tree(alloc), step)))
+    Ok(Request::Edit(Edit::Step(place, made.into_inner())))
 }
 
-// `main NUMBER CERT`
+// `PLACE NUMBER CERT`
 fn read_prove(alloc: Global, line: &[u8], mut at: usize) -> Result<Request, ReadError>
     requires { IsPlace line.now at }
     ensures { Answers prove_form line.now at result }
 {
-    expect(line, &mut at, b"main")?;
+    let place = place(alloc, line, &mut at)?;
     let number = number(line, &mut at, 0, 4294967295)?;
     let lines = cert(alloc, line, &mut at)?;
     end(line, at)?;
-    let cert = Cert { lines };
-    Ok(Request::Edit(Edit::Prove(main_tree(alloc), number, cert)))
+    Ok(Request::Edit(Edit::Prove(place, number, Cert { lines })))
 }
 
-fn main_tree(alloc: Global) -> Place
-    ensures { result ≡ main_tree }
+// Nothing, `all` or `PLACE`
+fn read_status(alloc: Global, line: &[u8], mut at: usize) -> Result<Request, ReadError>
+    requires { IsPlace line.now at }
+    ensures { Answers status_form line.now at result }
 {
-    Place {
-        tree: TreeName::Main,
-        path: Path {
-            kids: Items::new(alloc),
-        },
+    if accept(line, &mut at, b"all") {
+        end(line, at)?;
+        return Ok(Request::StatusAll);
     }
+    if accept(line, &mut at, b"main") {
+        let place = kids(alloc, line, &mut at)?;
+        end(line, at)?;
+        return Ok(Request::StatusAt(place));
+    }
+    end(line, at)?;
+    Ok(Request::Status)
+}
+
+// `PLACE`
+fn read_goal(alloc: Global, line: &[u8], mut at: usize) -> Result<Request, ReadError>
+    requires { IsPlace line.now at }
+    ensures { Answers goal_form line.now at result }
+{
+    let place = place(alloc, line, &mut at)?;
+    end(line, at)?;
+    Ok(Request::Goal(place))
 }
 
 #[cfg(test)]
@@ -138,7 +159,13 @@ mod tests {
                 (b"root x:[x = 1, 2 = x]", None),
                 (b"root x:[true, false]", None),
                 (b"step main skip", None),
+                (b"status main/1/2", None),
+                (b"status all", None),
+                (b"goal main", None),
+                (b"goal", Some(4)),
                 (b"status x", Some(7)),
+                (b"status main/0", Some(12)),
+                (b"status all x", Some(11)),
                 (b"prove main 4294967295 ax", None),
                 (b"\tstatus\r", None),
                 (b"frob", Some(0)),
@@ -198,6 +225,38 @@ mod tests {
     }
 
     #[test]
+    fn steps_are_words_with_their_arguments(rt: HostRuntime) -> Result<(), Fail> {
+        agree(
+            &rt,
+            rt.alloc(),
+            &[
+                (b"step main/1/2 open", None),
+                (b"step main weaken x = 1 and y = 2", None),
+                (b"step main strengthen x = x0", None),
+                (b"step main assign x,y := y, x + 1", None),
+                (b"step main follow x := x + 1", None),
+                (b"step main seq 0 <= x", None),
+                (b"step main seqcon A,B : x = y0", None),
+                (b"step main con X = y + 1", None),
+                (b"step main contract x,y", None),
+                (b"step main expand x", None),
+                (b"step main if x < 0 | x >= 0", None),
+                (b"step main do n - i ; i < n | i <> n", None),
+                (b"step main block t : array 3", None),
+                (b"step main con x = 1", Some(14)),
+                (b"step main seqcon a : true", Some(17)),
+                (b"step main assign X := 1", Some(17)),
+                (b"step main assign x = 1", Some(19)),
+                (b"step main contract", Some(18)),
+                (b"step main do i < n ; true", Some(15)),
+                (b"step main skip skip", Some(15)),
+                (b"step main/ skip", Some(11)),
+                (b"step main|1 skip", Some(9)),
+            ],
+        )
+    }
+
+    #[test]
     fn certificates_are_lines_with_semicolons(rt: HostRuntime) -> Result<(), Fail> {
         agree(
             &rt,
@@ -211,7 +270,7 @@ mod tests {
                 (b"prove main 1 andL 4294967296", Some(18)),
                 (b"prove main 1 swapL 1", Some(13)),
                 (
-                    b"prove main 1 allL 1 x + 1 ; exR 2 a[0] ; allR 1 y ; exL 2 y",
+                    b"prove main/2 1 allL 1 x + 1 ; exR 2 a[0] ; allR 1 y ; exL 2 y",
                     None,
                 ),
                 (b"prove main 1 eqR 1 ; flip 2 ; rwL 1 2 ; rwR 1 2", None),

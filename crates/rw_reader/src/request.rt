@@ -3,7 +3,7 @@
 ghost use Rattle.std.specs.Prelude.{◌≡◌};
 ghost use Rattle.rw_reader.specs.declared.request.ReadError.TheVariants as read_error;
 
-use rw_tree::edit::Edit;
+use rw_nodes::edit::{Edit, Place};
 use std::alloc::AllocError;
 use thiserror::Error;
 
@@ -11,7 +11,14 @@ use thiserror::Error;
 #[derive(Drop)]
 pub enum Request {
     Edit(Edit),
+    /// Whether the derivation is closed.
     Status,
+    /// The status of a node.
+    StatusAt(Place),
+    /// The status of each node.
+    StatusAll,
+    /// The specification and the obligations of a node.
+    Goal(Place),
 }
 
 /// Why a text is not read.

@@ -1,8 +1,8 @@
 //! The parts of requests, read from a place on.
 
 ghost use Rattle.std.specs.Prelude.{◌≡◌, ℕ, ◌≤◌, ◌<◌, ◌^◌, length, IfOk, IfSome, IsTrue};
-ghost use Rattle.rw_reader.specs.Forms.{is_text, is_lower, variable_of, number_within, takes, exactly, a_variable, a_number, a_reference};
-ghost use Rattle.rw_reader.specs.Phrases.{sort, names};
+ghost use Rattle.rw_reader.specs.Forms.{is_text, is_lower, variable_of, constant_of, number_within, takes, exactly, a_variable, a_constant, a_number, a_reference};
+ghost use Rattle.rw_reader.specs.Phrases.{sort, names, constants, kids, place};
 ghost use Rattle.rw_reader.specs.Certificates.{any_number};
 ghost use Rattle.rw_reader.specs.Seen.{seen};
 ghost use Rattle.rw_reader.specs.Progress.{IsPlace, Took, Chose, Ended};
@@ -13,6 +13,7 @@ use crate::request::ReadError;
 use crate::token::{LARGEST, Token, token_at};
 use rw_arith::line::Ref;
 use rw_items::Items;
+use rw_nodes::edit::{Path, Place, TreeName};
 use rw_terms::name::Name;
 use rw_terms::term::Sort;
 use std::alloc::Global;
@@ -70,6 +71,24 @@ pub fn variable(line: &[u8], at: &mut usize) -> Result<Name, ReadError>
 {
     match token_at(line, *at) {
         Some((token, next)) => match variable_of(token) {
+            Some(name) => {
+                *at = next;
+                Ok(name)
+            }
+            None => Err(fault(*at)),
+        },
+        None => Err(fault(*at)),
+    }
+}
+
+/// Reads a constant's name.
+pub fn constant(line: &[u8], at: &mut usize) -> Result<Name, ReadError>
+    requires { IsPlace line.now at.old }
+    ensures took { Took (takes a_constant) line.now at.old at.new result }
+    ensures on { at.old ≤ at.new }
+{
+    match token_at(line, *at) {
+        Some((token, next)) => match constant_of(token) {
             Some(name) => {
                 *at = next;
                 Ok(name)
@@ -164,6 +183,46 @@ pub fn names(alloc: Global, line: &[u8], at: &mut usize) -> Result<Items<Name>, 
     Ok(names)
 }
 
+/// Reads constants with commas between them.
+pub fn constants(alloc: Global, line: &[u8], at: &mut usize) -> Result<Items<Name>, ReadError>
+    requires { IsPlace line.now at.old }
+    ensures { Took constants line.now at.old at.new result }
+{
+    let mut names = Items::new(alloc);
+    let first = constant(line, at)?;
+    names.push(first)?;
+    'constants: while accept(line, at, b",") {
+        let name = constant(line, at)?;
+        names.push(name)?;
+    }
+    Ok(names)
+}
+
+/// Reads `main` and kid numbers, each behind `/`.
+pub fn place(alloc: Global, line: &[u8], at: &mut usize) -> Result<Place, ReadError>
+    requires { IsPlace line.now at.old }
+    ensures { Took place line.now at.old at.new result }
+{
+    expect(line, at, b"main")?;
+    kids(alloc, line, at)
+}
+
+/// Reads the kid numbers of a place in the main tree, each behind `/`.
+pub fn kids(alloc: Global, line: &[u8], at: &mut usize) -> Result<Place, ReadError>
+    requires { IsPlace line.now at.old }
+    ensures { Took kids line.now at.old at.new result }
+{
+    let mut kids = Items::new(alloc);
+    'kids: while accept(line, at, b"/") {
+        let kid = number(line, at, 1, 4294967295)?;
+        kids.push(kid)?;
+    }
+    Ok(Place {
+        tree: TreeName::Main,
+        path: Path { kids },
+    })
+}
+
 /// Sees that nothing is left.
 pub fn end(line: &[u8], at: usize) -> Result<(), ReadError>
     requires { IsPlace line.now at }
@@ -218,6 +277,18 @@ fn number_within(least: u32, most: u32, token: Token) -> Option<u32>
             }
         }
         Token::Text(_) | Token::Binder(_) => None,
+    }
+}
+
+fn constant_of(token: Token) -> Option<Name>
+    ensures { result ≡ constant_of (seen token.entry) }
+{
+    match token {
+        Token::Text(text) => match Name::read(text) {
+            Ok(name) => { if is_lower(text) { None } else { Some(name) } }
+            Err(_) => None,
+        },
+        Token::Number(_) | Token::Binder(_) => None,
     }
 }
 

@@ -1,4 +1,11 @@
+pub mod Clauses
+pub mod Same
+pub mod Sound
+pub mod Restored
 pub mod Sizes
-pub mod Making
-pub mod Checking
+pub mod Counted
 pub mod Roots
+pub mod Sites
+pub mod Weighing
+pub mod Marked
+pub mod Guards

@@ -3,7 +3,7 @@ use Rattle.std.proofs.Common.{◌≡◌, ℕ, List, Option, Some, None, map, sym
 use Rattle.rw_programs.specs.declared.prog.Param.{Param}
 use Rattle.rw_programs.specs.declared.prog.Spec.{Spec}
 use Rattle.rw_tree.specs.declared.refusal.EditRefusal.TheVariants as refusal
-use Rattle.rw_tree.specs.Edits.{global}
+use Rattle.rw_nodes.specs.Edits.{global}
 use Rattle.rw_tree.specs.Refusals.{or_refusal, unknown, ill_formed, root_unknown, ill_formed_part, past_limit, root_refusal}
 
 module _ (globals : List Param) (w : Spec) (o : Option (List ℕ)) (asked : o ≡ root_unknown globals w) where

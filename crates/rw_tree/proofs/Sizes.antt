@@ -1,89 +1,49 @@
--- Lists of certificates that are cut or filled up.
-use Rattle.std.proofs.Common.{◌≡◌, ℕ, zero, suc, ◌<◌, ◌≤◌, ◌-◌, if◌then◌else◌, nat_lt, nat_eq, List, [], ◌∷◌, ◌++◌, length, length-append, take, replicate, refl, sym, ap, ◌∙◌, arith, Option, Some, None, inl, inr, slice_set, MatchOption}
+-- How many nodes there are with a step.
+use Rattle.std.proofs.Common.{◌≡◌, ℕ, zero, suc, ◌+◌, ◌-◌, ◌≤◌, ◌<◌, List, [], ◌∷◌, length, map, take, sym, ap, ◌∙◌, arith, Some}
 use Rattle.std.specs.List.{slice_get}
-use Rattle.std.specs.Option.{option_and_then}
-use Rattle.std.proofs.lemmas.List.{length-replicate}
-use Rattle.std.proofs.lemmas.Bool.Decides.{leb_tells, eqb_tells}
+use Rattle.rw_nodes.specs.declared.edit.Step.{Step}
+use Rattle.rw_nodes.specs.declared.node.Node.{Node, out-Node}
+use Rattle.rw_nodes.specs.Edits.{kids_of}
+use Rattle.rw_nodes.specs.Nodes.{look, renewed, fresh_node, size, total}
+use Rattle.rw_nodes.specs.Parts.{set_step}
+use Rattle.rw_nodes.proofs.Counts.{size-out, size_changed, size_renewed, size_look}
 
--- what a list that lost its last item is of a longer list
-pub take_before : {A : Type 0} (ys : List A) (last : A) (n : ℕ) (init : List A) → ys ++ last ∷ [] ≡ take n init → ys ≡ take (length ys) init
-take_before [] last n init e = refl
-take_before (y ∷ ys) last zero init e = absurd (cc)
-take_before (y ∷ ys) last (suc n) [] e = absurd (cc)
-take_before (y ∷ ys) last (suc n) (i ∷ init) e =
-    let first : y ≡ i = cc in
-    let rest : ys ++ last ∷ [] ≡ take n init = cc in
-    ap (λ z. z ∷ ys) first ∙ ap (λ zs. i ∷ zs) (take_before ys last n init rest)
+-- a node within a tree of few nodes has few
+pub few_within : (main node : Node) (path : List ℕ) → look main path ≡ Some node → size main ≤ 2048 → size node ≤ 2048
+few_within main node path there few = let less : size node ≤ size main = size_look main node path there in omega (arith, less, few)
 
--- a list of which the last item is taken, if there is one
-pub popped : {A : Type 0} (o : Option A) (old new init : List A) (count : ℕ) → MatchOption o ((old ≡ []) × (new ≡ [])) (λ last. old ≡ new ++ last ∷ []) → count < length old → old ≡ take (length old) init → (count ≤ length new) × (new ≡ take (length new) init)
-popped None old new init count e h front = absurd (omega (arith, ap length e.0))
-popped (Some last) old new init count e h front =
-    (omega (arith, ap length e, length-append new (last ∷ [])), take_before new last (length old) init (sym e ∙ front))
+-- the nodes of the tree but for those of the node, and those of the node with the step
+pub nodes_after : (main node : Node) (path : List ℕ) (s : Step) → look main path ≡ Some node →
+    size main - size node + (1 + total (map size (take (kids_of s) (out-Node node).kids)) + (kids_of s - length (out-Node node).kids)) ≡ size (set_step path (Some s) main)
+nodes_after main node path s there =
+    let change : size (set_step path (Some s) main) + size node ≡ size main + size (renewed (fresh_node (Some s)) node) = size_changed (renewed (fresh_node (Some s))) main node path there in
+    let with_step : size (renewed (fresh_node (Some s)) node) ≡ suc (total (map size (take (kids_of s) (out-Node node).kids)) + (kids_of s - length (out-Node node).kids)) = size_renewed (Some s) node in
+    let less : size node ≤ size main = size_look main node path there in
+    omega (arith, change, with_step, less)
 
--- the certificate in a place, if there is one
-abbrev pub held : {A : Type 0} → List (Option A) → ℕ → Option A
-held certs i = option_and_then (λ o. o) (slice_get certs i)
+-- a node within a tree has no more nodes
+pub less_within : (main node : Node) (path : List ℕ) → look main path ≡ Some node → size node ≤ size main
+less_within main node path there = size_look main node path there
 
-abbrev nothing : {A : Type 0} → Option A
-nothing = None
+total_take : (k : ℕ) (xs : List Node) → total (map size (take k xs)) ≤ total (map size xs)
+total_take zero [] = omega arith
+total_take zero (x ∷ xs) = omega arith
+total_take (suc k) [] = omega arith
+total_take (suc k) (x ∷ xs) = let rest : total (map size (take k xs)) ≤ total (map size xs) = total_take k xs in omega (arith, rest)
 
-held_blank : {A : Type 0} (n i : ℕ) → held (replicate n (nothing {A = A})) i ≡ None
-held_blank zero i = refl
-held_blank (suc n) zero = refl
-held_blank (suc n) (suc i) = held_blank n i
+-- the kids that stay are fewer than the nodes of a tree
+pub few_taken : (node : Node) (k : ℕ) (kids : List Node) → kids ≡ (out-Node node).kids → size node ≤ 2048 → total (map size (take k kids)) < 2048
+few_taken node k kids is few =
+    let all : size node ≡ suc (total (map size (out-Node node).kids)) = size-out node in
+    let same : total (map size kids) ≡ total (map size (out-Node node).kids) = ap (λ ks. total (map size ks)) is in
+    let some : total (map size (take k kids)) ≤ total (map size kids) = total_take k kids in
+    omega (arith, all, same, some, few)
 
-abbrev pub sized : {A : Type 0} → ℕ → List (Option A) → List (Option A)
-sized n certs = take n certs ++ replicate (n - length certs) None
+-- a kid has no more nodes than all
+pub total_get : (kids : List Node) (i : ℕ) (kid : Node) → slice_get kids i ≡ Some kid → size kid ≤ total (map size kids)
+total_get [] i kid e = absurd (cc)
+total_get (x ∷ kids) zero kid e = let is : x ≡ kid = cc in let same : size x ≡ size kid = ap size is in omega (arith, same)
+total_get (x ∷ kids) (suc i) kid e = let rest : size kid ≤ total (map size kids) = total_get kids i kid e in omega (arith, rest)
 
-less_one : (n m : ℕ) → suc n - suc m ≡ n - m
-less_one n m = omega arith
-
-less_none : (n : ℕ) → n - zero ≡ n
-less_none n = omega arith
-
-none_over : (n : ℕ) → zero - n ≡ zero
-none_over n = omega arith
-
-held_past : {A : Type 0} (n i : ℕ) (certs : List (Option A)) → n ≤ i → held (sized n certs) i ≡ None
-held_past zero i certs h = ap (λ m. held (replicate m None) i) (none_over (length certs))
-held_past {A} (suc n) i [] h = ap (λ m. held (replicate m (nothing {A = A})) i) (less_none (suc n)) ∙ held_blank (suc n) i
-held_past (suc n) zero (c ∷ certs) h = absurd (omega arith)
-held_past (suc n) (suc i) (c ∷ certs) h = ap (λ m. held (take n certs ++ replicate m None) i) (less_one n (length certs)) ∙ held_past n i certs (omega arith)
-
-held_within : {A : Type 0} (n i : ℕ) (certs : List (Option A)) → i < n → held (sized n certs) i ≡ held certs i
-held_within zero i certs h = absurd (omega arith)
-held_within {A} (suc n) i [] h = ap (λ m. held (replicate m (nothing {A = A})) i) (less_none (suc n)) ∙ held_blank (suc n) i
-held_within (suc n) zero (c ∷ certs) h = refl
-held_within (suc n) (suc i) (c ∷ certs) h = ap (λ m. held (take n certs ++ replicate m None) i) (less_one n (length certs)) ∙ held_within n i certs (omega arith)
-
--- what stands in each place of a list that was cut or filled up
-pub held_sized : {A : Type 0} (n i : ℕ) (certs : List (Option A)) → held (sized n certs) i ≡ (if nat_lt n (suc i) then None else held certs i)
-held_sized n i certs = elim (leb_tells (suc n) (suc i)) [
-  | inl h ↦ rw h.0 (held_past n i certs (omega (arith, h.1)))
-  | inr h ↦ rw h.0 (held_within n i certs (omega (arith, h.1)))
-]
-
-pub length_sized : {A : Type 0} (n : ℕ) (certs : List (Option A)) → length (sized n certs) ≡ n
-length_sized {A} zero certs = ap (λ m. length (replicate m (nothing {A = A}))) (none_over (length certs))
-length_sized {A} (suc n) [] = ap (λ m. length (replicate m (nothing {A = A}))) (less_none (suc n)) ∙ length-replicate (suc n) (nothing {A = A})
-length_sized (suc n) (c ∷ certs) = ap (λ m. suc (length (take n certs ++ replicate m None))) (less_one n (length certs)) ∙ ap suc (length_sized n certs)
-
--- what stands in each place where one was set
-held_there : {A : Type 0} (certs : List (Option A)) (k : ℕ) (c : A) → k < length certs → held (slice_set certs k (Some c)) k ≡ Some c
-held_there [] k c h = absurd (omega arith)
-held_there (x ∷ certs) zero c h = refl
-held_there (x ∷ certs) (suc k) c h = held_there certs k c (omega arith)
-
-held_elsewhere : {A : Type 0} (certs : List (Option A)) (k i : ℕ) (c : A) → (k ≡ i → ⊥) → held (slice_set certs k (Some c)) i ≡ held certs i
-held_elsewhere [] k i c ne = refl
-held_elsewhere (x ∷ certs) zero zero c ne = absurd (ne refl)
-held_elsewhere (x ∷ certs) zero (suc i) c ne = refl
-held_elsewhere (x ∷ certs) (suc k) zero c ne = refl
-held_elsewhere (x ∷ certs) (suc k) (suc i) c ne = held_elsewhere certs k i c (λ e. ne (ap suc e))
-
-pub held_set : {A : Type 0} (certs : List (Option A)) (k i : ℕ) (c : A) → k < length certs → held (slice_set certs k (Some c)) i ≡ (if nat_eq (suc k) (suc i) then Some c else held certs i)
-held_set certs k i c h = elim (eqb_tells (suc k) (suc i)) [
-  | inl e ↦ rw e.0 (ap (λ j. held (slice_set certs k (Some c)) j) (omega (arith, e.1)) ∙ held_there certs k c h)
-  | inr ne ↦ rw ne.0 (held_elsewhere certs k i c (λ e. ne.1 (ap suc e)))
-]
+pub kids_fewer : (node : Node) (kids : List Node) → kids ≡ (out-Node node).kids → size node ≡ suc (total (map size kids))
+kids_fewer node kids is = size-out node ∙ ap (λ ks. suc (total (map size ks))) (sym is)

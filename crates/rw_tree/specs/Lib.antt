@@ -1,4 +1,5 @@
-pub mod Edits
+pub mod Derived
+pub mod Weight
 pub mod Refusals
 pub mod Anew
-pub mod Parts
+pub mod Mirror

@@ -1,10 +1,10 @@
 -- Which test refuses an edit after a list of edits.
-use Rattle.std.specs.Prelude.{◌≡◌, ℕ, Bool, true, not, ◌&&◌, ◌||◌, if◌then◌else◌, nat_le, nat_lt, length, List, [], ◌∷◌, map, Option, Some, None}
+use Rattle.std.specs.Prelude.{◌≡◌, ℕ, Bool, true, false, min, not, ◌&&◌, ◌||◌, if◌then◌else◌, nat_le, nat_lt, length, List, [], ◌∷◌, map, Option, Some, None}
 use Rattle.rw_terms.specs.declared.scope.Entry.{Entry}
 use Rattle.rw_terms.specs.declared.term.Term.{Term}
 use Rattle.rw_terms.specs.declared.term.Formula.{Formula}
 use Rattle.rw_terms.specs.Size.{term_weight, term_depth}
-use Rattle.rw_faults.specs.Faults.{first_name, unknown_in, is_ill_sorted}
+use Rattle.rw_faults.specs.Faults.{first_name, first_of_names, unknown_in, predicate_unknown_in, is_ill_sorted}
 use Rattle.rw_faults.specs.Initial.{is_twice, initial_outside}
 use Rattle.rw_faults.specs.Limits.{is_light, is_shallow, is_small}
 use Rattle.rw_programs.specs.declared.prog.Param.{Param}
@@ -14,13 +14,25 @@ use Rattle.rw_sequents.specs.declared.line.Cert.{Cert}
 use Rattle.rw_sequents.specs.declared.line.CertLine.{CertLine}
 use Rattle.rw_sequents.specs.declared.line.CertLine.TheVariants as line
 use Rattle.rw_sequents.specs.Counting.{line_count}
-use Rattle.rw_tree.specs.declared.edit.Place.{Place}
-use Rattle.rw_tree.specs.declared.edit.Edit.{Edit}
-use Rattle.rw_tree.specs.declared.edit.Edit.TheVariants as edit
+use Rattle.rw_nodes.specs.declared.edit.Place.{Place}
+use Rattle.rw_nodes.specs.declared.edit.Edit.{Edit}
+use Rattle.rw_nodes.specs.declared.edit.Edit.TheVariants as edit
 use Rattle.rw_tree.specs.declared.refusal.EditRefusal.{EditRefusal}
 use Rattle.rw_tree.specs.declared.refusal.EditRefusal.TheVariants as refusal
 use Rattle.rw_tree.specs.declared.refusal.Which.TheVariants as which
-use Rattle.rw_tree.specs.Edits.{global, is_param, globals_of, step_at, obligations_in, is_node}
+use Rattle.rw_laws.specs.declared.step.BasicStep.{BasicStep}
+use Rattle.rw_laws.specs.declared.step.BasicStep.TheVariants as basic
+use Rattle.rw_loops.specs.declared.step.LoopStep.{LoopStep}
+use Rattle.rw_loops.specs.declared.step.LoopStep.TheVariants as loop
+use Rattle.rw_loops.specs.Counts.{guards_of}
+use Rattle.rw_nodes.specs.declared.edit.Step.{Step}
+use Rattle.rw_nodes.specs.declared.edit.Step.TheVariants as step
+use Rattle.rw_nodes.specs.declared.node.Node.{Node}
+use Rattle.rw_nodes.specs.declared.parts.Parts.{Parts}
+use Rattle.rw_nodes.specs.Edits.{global, is_param, globals_of, kids_of, is_node, has_obligation_of}
+use Rattle.rw_nodes.specs.Nodes.{size}
+use Rattle.rw_nodes.specs.Parts.{Makes, tree_of, parts_of}
+use Rattle.rw_tree.specs.Weight.{parts_weight}
 
 -- the first of two refusals, if any
 abbrev pub or_refusal : Option EditRefusal → Option EditRefusal → Option EditRefusal
@@ -73,14 +85,19 @@ var_refusal globals p =
     if is_param globals p.name then Some (refusal.Duplicate p.name) else if nat_le 64 (length globals) then Some (refusal.Limit which.Globals 64) else None
 
 -- the place is a node, and then what is asked there
+abbrev pub at_place : Bool → Place → Option EditRefusal → Option EditRefusal
+at_place true q ask = ask
+at_place false q ask = Some (refusal.NoNode q)
+
 abbrev pub at_node : List Edit → Place → Option EditRefusal → Option EditRefusal
-at_node l q ask = if is_node l q.path.kids then ask else Some (refusal.NoNode q)
+at_node l q ask = at_place (is_node l q.path.kids) q ask
 
--- obligations of a node are numbered from 1
-abbrev pub has_obligation : List Edit → List ℕ → ℕ → Bool
-has_obligation l p k = nat_le 1 k && nat_le k (obligations_in (step_at l p))
+-- the obligation is there, and then what is asked of it
+abbrev pub at_obligation : Bool → ℕ → Option EditRefusal → Option EditRefusal
+at_obligation true k ask = ask
+at_obligation false k ask = Some (refusal.NoObligation k)
 
--- the limits of a term in a certificate are those of a formula
+-- the limits of a term are those of a formula
 abbrev pub is_light_term : Term → Bool
 is_light_term t = nat_le (term_weight t) 1024
 
@@ -107,18 +124,91 @@ cert_limit c =
     else if nat_le (line_count c.lines) 4096 then None
     else Some (refusal.Limit which.Lines 4096)
 
--- the first test that refuses the edit after the list, if one does
-abbrev pub refusal_of : List Edit → Edit → Option EditRefusal
-refusal_of l (edit.Var p) = var_refusal (globals_of l) p
-refusal_of l (edit.Root w) = root_refusal (globals_of l) w
-refusal_of l (edit.Step q s) = at_node l q None
-refusal_of l (edit.Prove q k c) = at_node l q (if has_obligation l q.path.kids k then cert_limit c else Some (refusal.NoObligation k))
+-- the formula of a step passes a test, and so do its terms another
+abbrev pub step_passes : (Formula → Bool) → (Term → Bool) → BasicStep → Bool
+step_passes formula term (basic.Weaken f) = formula f
+step_passes formula term (basic.Strengthen f) = formula f
+step_passes formula term (basic.Assign names terms) = list_all term terms
+step_passes formula term (basic.Follow names terms) = list_all term terms
+step_passes formula term (basic.Seq f) = formula f
+step_passes formula term (basic.SeqCon names f) = formula f
+step_passes formula term (basic.Con x t) = term t
+step_passes formula term _ = true
+
+-- the guards of such a step pass a test, and so does its variant another
+abbrev pub loop_passes : (Formula → Bool) → (Term → Bool) → LoopStep → Bool
+loop_passes formula term (loop.If guards) = list_all formula guards
+loop_passes formula term (loop.Do v guards) = term v && list_all formula guards
+loop_passes formula term (loop.Block x sort) = true
+
+-- the first limit that the formulas and terms of a step pass: weight and depth; then that of its guards, of which there are at most 32
+abbrev pub text_limit : Step → Option EditRefusal
+text_limit (step.Basic s) =
+    if not (step_passes is_light is_light_term s) then Some (refusal.Limit which.Weight 1024)
+    else if not (step_passes is_shallow is_shallow_term s) then Some (refusal.Limit which.Depth 64)
+    else None
+text_limit (step.Loop s) =
+    if not (loop_passes is_light is_light_term s) then Some (refusal.Limit which.Weight 1024)
+    else if not (loop_passes is_shallow is_shallow_term s) then Some (refusal.Limit which.Depth 64)
+    else if nat_lt 32 (length (guards_of s)) then Some (refusal.Limit which.Guards 32)
+    else None
+
+-- the first predicate of a step: none is declared yet
+abbrev pub predicate_in_step : Step → Option (List ℕ)
+predicate_in_step (step.Basic (basic.Weaken f)) = predicate_unknown_in [] f
+predicate_in_step (step.Basic (basic.Strengthen f)) = predicate_unknown_in [] f
+predicate_in_step (step.Basic (basic.Seq f)) = predicate_unknown_in [] f
+predicate_in_step (step.Basic (basic.SeqCon names f)) = predicate_unknown_in [] f
+predicate_in_step (step.Basic _) = None
+predicate_in_step (step.Loop s) = first_of_names (map (predicate_unknown_in []) (guards_of s))
+
+-- the first predicate of a line
+abbrev pub predicate_in_line : CertLine → Option (List ℕ)
+predicate_in_line (line.Cut f) = predicate_unknown_in [] f
+predicate_in_line _ = None
+
+-- the first predicate of a certificate
+abbrev pub predicate_in_cert : Cert → Option (List ℕ)
+predicate_in_cert c = first_of_names (map predicate_in_line c.lines)
+
+-- the tree has at most 2048 nodes with the step, and a place at most 128 kid numbers: one of 128 has no kids
+abbrev pub tree_limit : List ℕ → ℕ → Node → Option EditRefusal
+tree_limit path kids after =
+    if nat_lt 2048 (size after) then Some (refusal.Limit which.Nodes 2048)
+    else if nat_lt 0 kids && nat_le 128 (length path) then Some (refusal.Limit which.Path 128)
+    else None
+
+-- the first limit that a step passes, by the tree with it
+abbrev pub step_limit : List ℕ → Step → Node → Option EditRefusal
+step_limit path s after = or_refusal (text_limit s) (tree_limit path (kids_of s) after)
+
+-- the weight of a project that is past what it may have; a weight above 2^64 - 1 is told as that
+abbrev pub full_by : ℕ → ℕ → Option EditRefusal
+full_by most weight = if nat_lt most weight then Some (refusal.Full (min weight 18446744073709551615)) else None
+
+unfoldable pub full : Parts → Option EditRefusal
+full parts = full_by parts.most (parts_weight parts)
+
+-- the first test that refuses the edit after the list, if one does; the last one is that of the weight of the project with the edit
+abbrev pub refusal_of : ℕ → List Edit → Edit → Option EditRefusal
+refusal_of most l (edit.Var p) = or_refusal (var_refusal (globals_of l) p) (full (parts_of most (edit.Var p ∷ l)))
+refusal_of most l (edit.Root w) = or_refusal (root_refusal (globals_of l) w) (full (parts_of most (edit.Root w ∷ l)))
+refusal_of most l (edit.Step q s) =
+    or_refusal (unknown (predicate_in_step s))
+    (at_node l q (or_refusal (step_limit q.path.kids s (tree_of (edit.Step q s ∷ l))) (full (parts_of most (edit.Step q s ∷ l)))))
+refusal_of most l (edit.Clear q) = at_node l q (full (parts_of most (edit.Clear q ∷ l)))
+refusal_of most l (edit.Prove q k c) =
+    or_refusal (unknown (predicate_in_cert c)) (at_node l q (at_obligation (has_obligation_of l q.path.kids k) k (cert_limit c)))
 
 -- no test refuses the edit after the list
-abbrev pub Accepts : List Edit → Edit → Type 0
-Accepts l e = refusal_of l e ≡ None
+abbrev pub Accepts : ℕ → List Edit → Edit → Type 0
+Accepts most l e = refusal_of most l e ≡ None
 
 -- each edit of the list is accepted after those before it
-abbrev pub IsGood : List Edit → Type 0
-IsGood [] = Unit {0}
-IsGood (e ∷ l) = IsGood l × Accepts l e
+abbrev pub IsGood : ℕ → List Edit → Type 0
+IsGood most [] = Unit {0}
+IsGood most (e ∷ l) = IsGood most l × Accepts most l e
+
+-- some list of good edits makes the project
+abbrev pub IsProject : Parts → Type 0
+IsProject parts = (most : ℕ) × (l : List Edit) × IsGood most l × Makes most l parts

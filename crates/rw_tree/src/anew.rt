@@ -1,26 +1,31 @@
 //! Checking a project anew.
 
-ghost use Rattle.std.specs.Prelude.{◌≡◌, ◌≤◌, ◌<◌, ◌+◌, ◌⊎◌, ℕ, List, [], IfOk, IfErr, option_copied, length};
-ghost use Rattle.rw_skip.specs.Laws.{FitsWith, MisfitsBy};
+ghost use Rattle.std.specs.Prelude.{◌≡◌, ◌≤◌, ◌<◌, ◌+◌, ◌++◌, ◌⊎◌, ℕ, List, [], IfOk, IfErr, OnOk, option_copied, option_map, length, map, slice_get, Option, Some};
+ghost use Rattle.rw_programs.specs.declared.applied.Child.{Child};
 ghost use Rattle.rw_sequents.specs.declared.line.Cert.{Cert};
 ghost use Rattle.rw_sequents.specs.Counting.{line_count};
-ghost use Rattle.rw_tree.specs.declared.edit.Edit.{Edit};
-ghost use Rattle.rw_tree.specs.Refusals.{IsGood};
-ghost use Rattle.rw_tree.specs.Anew.{anew, main_context, root_place, law_at, no_library, state_of, needs_from, judged_step, pending_from};
-ghost use Rattle.rw_tree.specs.Parts.{Makes, HasFewLines, numbered, mark_in, judged_in};
+ghost use Rattle.rw_nodes.specs.declared.edit.Edit.{Edit};
+ghost use Rattle.rw_nodes.specs.declared.edit.Step.{Step};
+ghost use Rattle.rw_nodes.specs.declared.node.Node.{Node};
+ghost use Rattle.rw_nodes.specs.Nodes.{size, total};
+ghost use Rattle.rw_nodes.specs.Parts.{Makes};
+ghost use Rattle.rw_tree.specs.Refusals.{IsGood, IsProject};
+ghost use Rattle.rw_tree.specs.Derived.{derived, sites, kid_sites, root_given};
+ghost use Rattle.rw_tree.specs.Anew.{anew, place_at, child_spec, no_library, state_of, certified, needs_from, pending_from, status_of, mark_of, tree_marks};
+ghost use Rattle.rw_tree.specs.Mirror.{AreSound, HasFewLines};
 
-use crate::edit::{Path, Place, Step, TreeName};
-use crate::globals::scope_of;
-use crate::parts::Parts;
+use crate::derived::{Derived, Outcome, derive, root_given};
 use crate::refusal::TreeError;
-use crate::status::{Judgement, Need, NeedState, NodeMark, Status, Statuses};
+use crate::status::{Need, NeedState, NodeMark, Status, Statuses};
 use rw_goals::library::Library;
-use rw_items::Items;
-use rw_programs::applied::{ApplyError, Context};
-use rw_programs::prog::{Param, Spec};
+use rw_items::{Items, at};
+use rw_nodes::edit::{Path, Place, TreeName};
+use rw_nodes::node::Node;
+use rw_nodes::parts::Parts;
+use rw_programs::applied::Child;
+use rw_programs::prog::Spec;
 use rw_sequents::check::check;
 use rw_sequents::line::{Cert, Verdict};
-use rw_skip::apply::obligations;
 use rw_steps::Steps;
 use rw_terms::sequent::Sequent;
 use std::alloc::{AllocError, Global};
@@ -33,128 +38,133 @@ pub fn check_anew<L: Ledger>(
     parts: &Parts,
     steps: &mut Steps<L>,
 ) -> Result<Statuses, TreeError>
-    requires { (l : List Edit) × Makes l parts.now × IsGood l }
-    ensures { IfOk result (λ statuses. (l : List Edit) → Makes l parts.now → statuses ≡ anew l) }
+    requires { IsProject parts.now }
+    ensures { IfOk result (λ statuses. (most : ℕ) (l : List Edit) → IsGood most l → Makes most l parts.now → statuses ≡ anew l) }
 {
-    let mark = root_mark(alloc, parts, steps)?;
-    let mut nodes = Items::new(alloc);
-    nodes.push(mark)?;
+    let nodes = tree_marks(alloc, parts, steps)?;
     Ok(Statuses { nodes })
 }
 
-fn root_mark<L: Ledger>(
+fn tree_marks<L: Ledger>(
     alloc: Global,
     parts: &Parts,
     steps: &mut Steps<L>,
-) -> Result<NodeMark, TreeError>
-    requires { HasFewLines parts.now.main.certs }
-    ensures { IfOk result (λ mark. mark ≡ mark_in parts.now) }
+) -> Result<Items<NodeMark>, TreeError>
+    requires { AreSound parts.now.main }
+    ensures { IfOk result (λ marks. marks ≡ tree_marks parts.now.main (root_given parts.now.globals parts.now.root)) }
 {
-    let judgement = judged(alloc, parts, steps)?;
+    let given = root_given(alloc, parts)?;
+    let mut path = Items::new(alloc);
+    let mut marks = Items::new(alloc);
+    mark_node(
+        alloc,
+        &parts.main,
+        given.as_ref(),
+        &mut path,
+        &mut marks,
+        steps,
+    )?;
+    Ok(marks)
+}
+
+// Adds the marks of a node and of all below.
+#[cycle(marks)]
+fn mark_node<L: Ledger>(
+    alloc: Global,
+    node: &Node,
+    given: Option<&Child>,
+    path: &mut Items<u32>,
+    marks: &mut Items<NodeMark>,
+    steps: &mut Steps<L>,
+) -> Result<(), TreeError>
+    requires { AreSound node.now }
+    ensures marks { OnOk result (marks.new ≡ marks.old ++ map mark_of (sites node.now (option_copied given.entry) path.old)) }
+    ensures path { OnOk result (path.new ≡ path.old) }
+{
+    let derived = derive(alloc, given, &node.step)?;
+    let certs = node.certs.as_slice();
+    let mark = mark(alloc, path.as_slice(), given, &derived, certs, steps)?;
+    marks.push(mark)?;
+    let children = derived.children.as_slice();
+    mark_kids(alloc, node.kids.as_slice(), children, path, marks, steps)
+}
+
+// Adds the marks of kids.
+#[cycle(marks)]
+fn mark_kids<L: Ledger>(
+    alloc: Global,
+    kids: &[Node],
+    children: &[Child],
+    path: &mut Items<u32>,
+    marks: &mut Items<NodeMark>,
+    steps: &mut Steps<L>,
+) -> Result<(), TreeError>
+    requires few { length kids.now ≤ 2048 }
+    requires sound { (i : ℕ) (x : Node) → slice_get kids.now i ≡ Some x → AreSound x }
+    ensures marks { OnOk result (marks.new ≡ marks.old ++ map mark_of (kid_sites (map sites kids.now) children.now 0 path.old)) }
+    ensures path { OnOk result (path.new ≡ path.old) }
+{
+    for i in 0..kids.len() {
+        path.push(i as u32 + 1)?;
+        mark_node(alloc, &kids[i], at(children, i), path, marks, steps)?;
+        let _ = path.pop();
+    }
+    Ok(())
+}
+
+// The mark of one node.
+fn mark<L: Ledger>(
+    alloc: Global,
+    path: &[u32],
+    given: Option<&Child>,
+    made: &Derived,
+    certs: &[Option<Cert>],
+    steps: &mut Steps<L>,
+) -> Result<NodeMark, TreeError>
+    requires few { length made.now.obligations < u32.MAX }
+    requires lines { HasFewLines certs.now }
+    ensures { IfOk result (λ m. (step : Option Step) → made.now ≡ derived (option_copied given.entry) step → m ≡ mark_of (record { path = path.now; given = option_copied given.entry; step = step; certs = certs.now })) }
+{
+    let needs = needs_of(alloc, made.obligations.as_slice(), certs, steps)?;
+    let status = status_of(made.outcome, needs.as_slice());
+    let place = place_at(alloc, path)?;
+    let spec = given_spec(alloc, given)?;
     Ok(NodeMark {
-        place: root_place(alloc),
-        status: judgement.status,
-        spec: copy_root(alloc, parts)?,
-        needs: judgement.needs,
+        place,
+        status,
+        spec,
+        needs,
     })
 }
 
-fn root_place(alloc: Global) -> Place
-    ensures { result ≡ root_place }
+fn place_at(alloc: Global, path: &[u32]) -> Result<Place, AllocError>
+    ensures { IfOk result (λ place. place ≡ place_at path.now) }
 {
-    Place {
+    let kids = Items::from_slice(alloc, path)?;
+    Ok(Place {
         tree: TreeName::Main,
-        path: Path {
-            kids: Items::new(alloc),
-        },
-    }
+        path: Path { kids },
+    })
 }
 
-fn copy_root(alloc: Global, parts: &Parts) -> Result<Option<Spec>, AllocError>
-    ensures { IfOk result (λ spec. spec ≡ parts.now.root) }
+fn given_spec(alloc: Global, given: Option<&Child>) -> Result<Option<Spec>, AllocError>
+    ensures { IfOk result (λ spec. spec ≡ option_map child_spec (option_copied given.entry)) }
 {
-    match &parts.root {
-        Some(spec) => Ok(Some(spec.copy(alloc)?)),
+    match given {
+        Some(child) => Ok(Some(child.spec.copy(alloc)?)),
         None => Ok(None),
     }
 }
 
-// The status of the root, and its obligations with their states.
-fn judged<L: Ledger>(
-    alloc: Global,
-    parts: &Parts,
-    steps: &mut Steps<L>,
-) -> Result<Judgement, TreeError>
-    requires { HasFewLines parts.now.main.certs }
-    ensures { IfOk result (λ j. j ≡ judged_in parts.now) }
+fn status_of(outcome: Outcome, needs: &[Need]) -> Status
+    requires { length needs.now < u32.MAX }
+    ensures { result ≡ status_of outcome needs.now }
 {
-    match &parts.root {
-        None => Ok(without_needs(alloc, Status::NoSpec)),
-        Some(spec) => match &parts.main.step {
-            None => Ok(without_needs(alloc, Status::Open)),
-            Some(step) => judged_step(alloc, parts, spec, step, steps),
-        },
-    }
-}
-
-fn without_needs(alloc: Global, status: Status) -> Judgement
-    ensures status { result.status ≡ status }
-    ensures needs { result.needs ≡ [] }
-{
-    Judgement {
-        status,
-        needs: Items::new(alloc),
-    }
-}
-
-#[tactic(auto, unfolding(crate::specs::Anew::judged_step))]
-fn judged_step<L: Ledger>(
-    alloc: Global,
-    parts: &Parts,
-    spec: &Spec,
-    step: &Step,
-    steps: &mut Steps<L>,
-) -> Result<Judgement, TreeError>
-    requires { HasFewLines parts.now.main.certs }
-    ensures { IfOk result (λ j. j ≡ judged_step (main_context parts.now.globals) spec.now step.now (numbered parts.now.main.certs)) }
-{
-    let context = main_context(alloc, parts.globals.as_slice())?;
-    match obligations_of(alloc, &context, spec, step) {
-        Ok(obligations) => {
-            let certs = parts.main.certs.as_slice();
-            let needs = needs_of(alloc, obligations.as_slice(), certs, steps)?;
-            let status = pending(needs.as_slice());
-            Ok(Judgement { status, needs })
-        }
-        Err(ApplyError::Misfit(misfit)) => Ok(without_needs(alloc, Status::Misfit(misfit))),
-        Err(ApplyError::Memory) => Err(TreeError::Memory),
-    }
-}
-
-#[tactic(auto, unfolding(crate::specs::Anew::main_context))]
-fn main_context(alloc: Global, globals: &[Param]) -> Result<Context, AllocError>
-    ensures { IfOk result (λ context. context ≡ main_context globals.now) }
-{
-    Ok(Context {
-        scope: scope_of(alloc, globals)?,
-        opened: Items::new(alloc),
-        order: u32::MAX,
-        inner: false,
-    })
-}
-
-fn obligations_of(
-    alloc: Global,
-    context: &Context,
-    spec: &Spec,
-    step: &Step,
-) -> Result<Items<Sequent>, ApplyError>
-    ensures ok { IfOk result (λ qs. FitsWith (law_at context.now spec.now step.now) (λ a. qs ≡ a.obligations)) }
-    ensures few { IfOk result (λ qs. length qs ≤ 1) }
-    ensures err { IfErr result (λ e. (e ≡ ApplyError.Memory) ⊎ MisfitsBy (law_at context.now spec.now step.now) (λ m. e ≡ ApplyError.Misfit m)) }
-{
-    match step {
-        Step::Basic(step) => obligations(alloc, context, spec, step),
+    match outcome {
+        Outcome::NoSpec => Status::NoSpec,
+        Outcome::Open => Status::Open,
+        Outcome::Misfit(misfit) => Status::Misfit(misfit),
+        Outcome::Fits => pending(needs),
     }
 }
 
@@ -165,7 +175,7 @@ fn needs_of<L: Ledger>(
     steps: &mut Steps<L>,
 ) -> Result<Items<Need>, TreeError>
     requires { HasFewLines certs.now }
-    ensures { IfOk result (λ needs. needs ≡ needs_from 1 obligations.now (numbered certs.now)) }
+    ensures { IfOk result (λ needs. needs ≡ needs_from 1 obligations.now (certified certs.now)) }
 {
     let mut needs = Items::new(alloc);
     for at in 0..obligations.len() {
@@ -178,7 +188,7 @@ fn needs_of<L: Ledger>(
 
 // The certificate in a place, counted from 0.
 fn cert_at(certs: &[Option<Cert>], at: usize) -> Option<&Cert>
-    ensures { option_copied result ≡ numbered certs.now (at + 1) }
+    ensures { option_copied result ≡ certified certs.now (at + 1) }
 {
     match certs.get(at) {
         Some(cert) => cert.as_ref(),

@@ -5,12 +5,11 @@ ghost use Rattle.std.specs.List.{list_all};
 ghost use Rattle.rw_faults.specs.Limits.{is_light as is_light_formula, is_shallow as is_shallow_formula};
 ghost use Rattle.rw_tree.specs.Refusals.{is_light_term, is_shallow_term, passes, cert_limit};
 
+use crate::limits::{is_light_term, is_shallow_term};
 use crate::refusal::{EditRefusal, Which};
 use rw_faults::limits::{is_light, is_shallow};
 use rw_sequents::line::{Cert, CertLine};
-use rw_terms::measure::{depth_of_term, weight_of_term};
 use rw_terms::sorts::{MOST_DEPTH, MOST_PARTS};
-use rw_terms::term::Term;
 
 const MOST_LINES: u32 = 4096;
 
@@ -86,16 +85,4 @@ fn is_shallow_line(line: &CertLine) -> bool
         CertLine::DivMod(t, u) => is_shallow_term(t) && is_shallow_term(u),
         _ => true,
     }
-}
-
-fn is_light_term(term: &Term) -> bool
-    ensures { result ≡ is_light_term term.now }
-{
-    weight_of_term(term) <= MOST_PARTS
-}
-
-fn is_shallow_term(term: &Term) -> bool
-    ensures { result ≡ is_shallow_term term.now }
-{
-    depth_of_term(term) <= MOST_DEPTH
 }

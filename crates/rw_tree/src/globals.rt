@@ -1,7 +1,7 @@
 //! The globals, and the scope that they make.
 
 ghost use Rattle.std.specs.Prelude.{◌≡◌, map, option_copied, IfOk};
-ghost use Rattle.rw_tree.specs.Edits.{global, is_param};
+ghost use Rattle.rw_nodes.specs.Edits.{global, is_param};
 
 use rw_items::Items;
 use rw_programs::prog::Param;

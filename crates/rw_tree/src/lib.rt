@@ -1,11 +1,17 @@
-//! Projects: edits, the derivation that they make, and checking it anew.
+//! Projects: the tests of edits, applying them, and checking a project anew.
 #![tactic(auto)]
 
 pub mod anew;
+pub mod apply;
 pub mod certificate;
-pub mod edit;
+pub mod derived;
+pub mod early;
 pub mod globals;
-pub mod parts;
+pub mod limits;
 pub mod refusal;
 pub mod root;
 pub mod status;
+#[cfg(test)]
+mod tests;
+pub mod unknown;
+pub mod weight;

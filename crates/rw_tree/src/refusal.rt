@@ -4,7 +4,7 @@ ghost use Rattle.std.specs.Prelude.{◌≡◌};
 ghost use Rattle.rw_tree.specs.declared.refusal.EditRefusal.TheVariants as refusal;
 ghost use Rattle.rw_tree.specs.declared.refusal.TreeError.TheVariants as tree_error;
 
-use crate::edit::Place;
+use rw_nodes::edit::Place;
 use rw_terms::name::Name;
 use std::alloc::AllocError;
 use thiserror::Error;
@@ -43,6 +43,8 @@ pub enum EditRefusal {
     NoObligation(u32),
     /// The quantity would pass this limit.
     Limit(Which, u32),
+    /// The project would weigh more than it may: this much, at most `u64::MAX`.
+    Full(u64),
     Memory,
 }
 

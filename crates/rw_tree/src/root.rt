@@ -1,7 +1,7 @@
 //! The tests of a root specification.
 
 ghost use Rattle.std.specs.Prelude.{◌≡◌, ◌||◌, map, option_copied, IfOk};
-ghost use Rattle.rw_tree.specs.Edits.{global};
+ghost use Rattle.rw_nodes.specs.Edits.{global};
 ghost use Rattle.rw_tree.specs.Refusals.{frame_unknown, root_unknown, is_ill_formed, ill_formed_part, past_limit, root_refusal};
 
 use crate::globals::{is_param, scope_of};

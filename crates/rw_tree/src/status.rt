@@ -1,7 +1,7 @@
 //! Statuses.
 
-use crate::edit::Place;
 use rw_items::Items;
+use rw_nodes::edit::Place;
 use rw_programs::applied::Misfit;
 use rw_programs::prog::Spec;
 use rw_terms::sequent::Sequent;
@@ -35,13 +35,6 @@ pub enum Status {
     /// The obligation of this number, from 1, is the first that is not good.
     Pending(u32, NeedState),
     Good,
-}
-
-/// The status of a node, and its obligations with their states.
-#[derive(Drop)]
-pub struct Judgement {
-    pub status: Status,
-    pub needs: Items<Need>,
 }
 
 /// What checking tells of a node.

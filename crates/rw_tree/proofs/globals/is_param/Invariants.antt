@@ -1,5 +1,5 @@
 use Rattle.std.proofs.Common.{◌≡◌, drop}
-use Rattle.rw_tree.specs.Edits.{is_param}
+use Rattle.rw_nodes.specs.Edits.{is_param}
 use Rattle.rw_tree.proofs.globals.is_param.Given as goal
 
 abbrev pub invariant-loop-param : goal.invariant-loop-param

@@ -1,0 +1,111 @@
+-- Each status that is shown is that of checking anew, and a derivation is shown closed exactly where it is.
+use Rattle.std.proofs.Common.{◌≡◌, ◌↔◌, ℕ, ◌+◌, Bool, true, false, if◌then◌else◌, length, List, [], ◌∷◌, ◌++◌, Option, Some, None, refl, sym, ap, ◌∙◌, get_or, arith}
+use Rattle.std.specs.Prelude.{codes}
+use Rattle.rw_terms.specs.Validity.{Each}
+use Rattle.rw_nodes.specs.declared.edit.Edit.{Edit}
+use Rattle.rw_tree.specs.declared.refusal.EditRefusal.{EditRefusal}
+use Rattle.rw_tree.specs.declared.status.NodeMark.{NodeMark}
+use Rattle.rw_tree.specs.declared.status.Status.{Status}
+use Rattle.rw_tree.specs.declared.status.Status.TheVariants as status
+use Rattle.rw_tree.specs.Refusals.{refusal_of, IsGood}
+use Rattle.rw_tree.specs.Anew.{anew, IsClosed}
+use Rattle.rw_tree.proofs.Same.{first_told}
+use Rattle.rw_collect.proofs.Closed.{closed_refined}
+use Rattle.rw_nodes.specs.declared.edit.Place.{Place}
+use Rattle.rw_reader.specs.declared.request.Request.{Request}
+use Rattle.rw_reader.specs.declared.request.Request.TheVariants as request
+use Rattle.rw_reader.specs.Reading.{Reading, reads, fault, reading}
+use Rattle.rw_project.specs.Texts.{is_good, closed_text, not_closed_text, closing_text}
+use Rattle.rw_project.specs.Goals.{goal_texts, mark_of}
+use Rattle.rw_project.specs.Session.{History, most_weight, no_history, past_limits, refusal_after, edited, told_of, no_lines, reply, reply_by, reply_to, is_silent, after, history_from, history_of}
+use Rattle.rw_project.specs.Headline.{StatusIsAnew, Headline}
+
+-- what is told of the first node that is not good is no text of a closed derivation
+fourth_differs : (rest : List ℕ) → (codes "ok not closed " ++ rest) ≡ codes "ok closed" → ⊥
+fourth_differs rest e = let at : get_or (codes "ok not closed " ++ rest) 3 0 ≡ get_or (codes "ok closed") 3 0 = ap (λ l. get_or l 3 0) e in absurd (omega (arith, at))
+
+not_closed_differs : (mark : NodeMark) → not_closed_text mark ≡ closed_text → ⊥
+not_closed_differs mark e = fourth_differs _ e
+
+good_told : (s : Status) → is_good s ≡ true → s ≡ status.Good
+good_told status.NoSpec e = absurd (cc)
+good_told status.Open e = absurd (cc)
+good_told (status.Misfit m) e = absurd (cc)
+good_told (status.Pending k state) e = absurd (cc)
+good_told status.Good e = refl
+
+first_good : (b : Bool) (mark : NodeMark) (later : List ℕ) → (if b then later else not_closed_text mark) ≡ closed_text → (b ≡ true) × (later ≡ closed_text)
+first_good true mark later e = (refl, e)
+first_good false mark later e = absurd (not_closed_differs mark e)
+
+abbrev IsGoodMark : NodeMark → Type 0
+IsGoodMark mark = mark.status ≡ status.Good
+
+all_good : (marks : List NodeMark) → closing_text marks ≡ closed_text → Each IsGoodMark marks
+all_good [] e = tt
+all_good (mark ∷ marks) e = let first = first_good (is_good mark.status) mark (closing_text marks) e in (good_told mark.status first.0, all_good marks first.1)
+
+told_closed : (marks : List NodeMark) → Each IsGoodMark marks → closing_text marks ≡ closed_text
+told_closed [] h = refl
+told_closed (mark ∷ marks) h = ap (λ s. if is_good s then closing_text marks else not_closed_text mark) h.0 ∙ told_closed marks h.1
+
+pub closed_exactly : (l : List Edit) → closing_text (anew l).nodes ≡ closed_text ↔ IsClosed l
+closed_exactly l = (all_good (anew l).nodes, told_closed (anew l).nodes)
+
+-- an edit that is taken is accepted
+good_edited : (history : History) (bytes : ℕ) (e : Edit) (o : Option EditRefusal) → refusal_after history bytes e ≡ o → IsGood most_weight history.0 → IsGood most_weight (edited history bytes e o).after.0
+good_edited history bytes e None is good = (good, (first_told (past_limits (length history.0) (history.1 + bytes)) (refusal_of most_weight history.0 e) is).1)
+good_edited history bytes e (Some r) is good = good
+
+good_shown : (history : History) (place : Place) (lines : NodeMark → List (List ℕ)) (o : Option NodeMark) → IsGood most_weight history.0 → IsGood most_weight (told_of history place lines o).after.0
+good_shown history place lines None good = good
+good_shown history place lines (Some mark) good = good
+
+good_reply : (history : History) (bytes : ℕ) (r : Reading) → IsGood most_weight history.0 → IsGood most_weight (reply_by history bytes r).after.0
+good_reply history bytes (reads (request.Edit e)) good = good_edited history bytes e (refusal_after history bytes e) refl good
+good_reply history bytes (reads request.Status) good = good
+good_reply history bytes (reads (request.StatusAt place)) good = good_shown history place no_lines (mark_of place (anew history.0).nodes) good
+good_reply history bytes (reads request.StatusAll) good = good
+good_reply history bytes (reads (request.Goal place)) good = good_shown history place goal_texts (mark_of place (anew history.0).nodes) good
+good_reply history bytes (fault offset) good = good
+
+good_after : (history : History) (line : List ℕ) → IsGood most_weight history.0 → IsGood most_weight (after history line).0
+unfolding reply
+good_after history line good = go (is_silent line)
+  where
+    go : (b : Bool) → IsGood most_weight (if b then history else (reply_by history (length line) (reading line)).after).0
+    go true = good
+    go false = good_reply history (length line) (reading line) good
+
+good_from : (history : History) (lines : List (List ℕ)) → IsGood most_weight history.0 → IsGood most_weight (history_from history lines).0
+unfolding history_from
+good_from history [] good = good
+good_from history (line ∷ lines) good = good_from (after history line) lines (good_after history line good)
+
+-- the live edits of a session are accepted, one after the other
+pub good_of : (lines : List (List ℕ)) → IsGood most_weight (history_of lines).0
+good_of lines = good_from no_history lines tt
+
+-- what the reply to a request is
+reply_told : (history : History) (line : List ℕ) (r : Request) → reading line ≡ reads r → reply history line ≡ reply_to history (length line) r
+unfolding reply
+reply_told history line r asks = ap (reply_by history (length line)) asks
+
+-- what the reply to a request for the status is
+status_told : (history : History) (line : List ℕ) → reading line ≡ reads request.Status → (reply history line).end ≡ closing_text (anew history.0).nodes
+unfolding reply
+status_told history line asks = ap (λ r. (reply_by history (length line) r).end) asks
+
+pub status_anew : (history : History) (line : List ℕ) → IsGood most_weight history.0 → StatusIsAnew history line
+status_anew history line good = record {
+  status = status_told history line;
+  exactly = λ asks. (λ e. (closed_exactly history.0).0 (sym (status_told history line asks) ∙ e), λ closed. status_told history line asks ∙ (closed_exactly history.0).1 closed);
+  at_place = λ place asks. reply_told history line (request.StatusAt place) asks;
+  each = λ asks. reply_told history line request.StatusAll asks;
+  goal = λ place asks. reply_told history line (request.Goal place) asks;
+  refined = λ shows. closed_refined most_weight history.0 good ((closed_exactly history.0).0 (sym (status_told history line shows.asks) ∙ shows.shows));
+}
+
+-- the headline, for any session
+pub headline : (lines : List (List ℕ)) → Headline lines
+headline lines before line behind split = status_anew (history_of before) line (good_of before)

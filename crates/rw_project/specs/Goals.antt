@@ -1,0 +1,41 @@
+-- What is told of one node, and of all.
+use Rattle.std.specs.Prelude.{ℕ, ◌+◌, Bool, if◌then◌else◌, List, [], ◌∷◌, ◌++◌, Option, Some, None, codes, decimal, bytes_eq}
+use Rattle.rw_programs.specs.declared.prog.Spec.{Spec}
+use Rattle.rw_nodes.specs.declared.edit.Place.{Place}
+use Rattle.rw_tree.specs.declared.status.Need.{Need}
+use Rattle.rw_tree.specs.declared.status.NodeMark.{NodeMark}
+use Rattle.rw_printer.specs.Layout.{spec_text, sequent_text}
+use Rattle.rw_project.specs.Texts.{place_text, state_text, status_text}
+
+-- a node's place and status
+abbrev pub mark_text : NodeMark → List ℕ
+mark_text m = place_text m.place ++ codes " " ++ status_text m.status
+
+abbrev pub node_text : NodeMark → List ℕ
+node_text m = codes "ok " ++ mark_text m
+
+-- an obligation with its number and its state
+abbrev pub need_text : ℕ → Need → List ℕ
+need_text k n = codes "need " ++ decimal k ++ codes " " ++ state_text n.state ++ codes " : " ++ sequent_text n.sequent
+
+-- the obligations from number k on
+abbrev pub needs_texts : ℕ → List Need → List (List ℕ)
+needs_texts k [] = []
+needs_texts k (n ∷ needs) = need_text k n ∷ needs_texts (k + 1) needs
+
+abbrev pub spec_texts : Option Spec → List (List ℕ)
+spec_texts None = []
+spec_texts (Some w) = (codes "spec " ++ spec_text w) ∷ []
+
+-- a node's specification, where it has one, and its obligations
+abbrev pub goal_texts : NodeMark → List (List ℕ)
+goal_texts m = spec_texts m.spec ++ needs_texts 1 m.needs
+
+-- whether a node is at a place; each place is one of the main tree, so its kid numbers tell
+abbrev pub is_at : Place → NodeMark → Bool
+is_at p m = bytes_eq m.place.path.kids p.path.kids
+
+-- what checking tells of the node at a place, if one is there
+abbrev pub mark_of : Place → List NodeMark → Option NodeMark
+mark_of p [] = None
+mark_of p (m ∷ marks) = if is_at p m then Some m else mark_of p marks

@@ -1,0 +1,80 @@
+-- The grammar of steps.
+use Rattle.std.specs.Prelude.{ℕ, List, [], ◌∷◌, map, codes, pos}
+use Rattle.rw_terms.specs.declared.term.Term.{Term}
+use Rattle.rw_terms.specs.declared.term.Term.TheOpen.{Term-F}
+use Rattle.rw_terms.specs.declared.term.Term.TheViews.{roll-Term}
+use Rattle.rw_terms.specs.declared.term.Formula.{Formula}
+use Rattle.rw_terms.specs.declared.term.Formula.TheOpen.{Formula-F}
+use Rattle.rw_terms.specs.declared.term.Formula.TheViews.{roll-Formula}
+use Rattle.rw_laws.specs.declared.step.BasicStep.{BasicStep}
+use Rattle.rw_laws.specs.declared.step.BasicStep.TheVariants as basic
+use Rattle.rw_loops.specs.declared.step.LoopStep.{LoopStep}
+use Rattle.rw_loops.specs.declared.step.LoopStep.TheVariants as loops
+use Rattle.rw_nodes.specs.declared.edit.Step.{Step}
+use Rattle.rw_nodes.specs.declared.edit.Step.TheVariants as steps
+use Rattle.rw_reader.specs.Forms.{a_variable, a_constant, Given, a_term, a_formula, Form, gives, takes, either, many}
+use Rattle.rw_reader.specs.Phrases.{mark, sort, formula, term, names, constants}
+
+-- a term as an item
+unfoldable pub term_form : Form
+term_form = term 512 (λ t. gives (a_term t))
+
+abbrev pub term_in : Given → Term
+term_in (a_term t) = t
+term_in _ = roll-Term (Term-F.Lit (pos 0))
+
+-- TERM { , TERM }
+unfoldable pub terms : (List Term → Form) → Form
+terms k = many term_form (codes ",") (λ gs. k (map term_in gs))
+
+-- a guard as an item; `if` and `do` count one in its nest
+unfoldable pub guard_form : Form
+guard_form = formula 511 (λ f. gives (a_formula f))
+
+abbrev pub guard_in : Given → Formula
+guard_in (a_formula f) = f
+guard_in _ = roll-Formula Formula-F.True
+
+-- FORM { | FORM }
+unfoldable pub guards : (List Formula → Form) → Form
+guards k = many guard_form (codes "|") (λ gs. k (map guard_in gs))
+
+-- NAMES := TERMS
+unfoldable pub assignment : (List (List ℕ) × List Term → Form) → Form
+assignment k = names (λ xs. mark (codes ":=") (terms (λ ts. k (xs, ts))))
+
+-- TERM ; GUARDS, behind `do`
+unfoldable pub iteration : (LoopStep → Form) → Form
+iteration k = term 511 (λ v. mark (codes ";") (guards (λ gs. k (loops.Do v gs))))
+
+-- NAME : SORT, behind `block`
+unfoldable pub block : (LoopStep → Form) → Form
+block k = takes a_variable (λ x. mark (codes ":") (sort (λ s. k (loops.Block x s))))
+
+-- the steps of alternation, iteration and local blocks
+unfoldable pub loop_step : (LoopStep → Form) → Form
+loop_step k = either (codes "if") (guards (λ gs. k (loops.If gs))) (either (codes "do") (iteration k) (mark (codes "block") (block k)))
+
+-- NAMES : FORM, of constants, behind `seqcon`
+unfoldable pub constants_and_formula : (BasicStep → Form) → Form
+constants_and_formula k = constants (λ xs. mark (codes ":") (formula 512 (λ f. k (basic.SeqCon xs f))))
+
+-- NAME = TERM, of a constant, behind `con`
+unfoldable pub pinned : (BasicStep → Form) → Form
+pinned k = takes a_constant (λ x. mark (codes "=") (term 512 (λ t. k (basic.Con x t))))
+
+-- the steps with constants, and those of `loop_step`
+unfoldable pub constant_step : (Step → Form) → Form
+constant_step k = either (codes "seqcon") (constants_and_formula (λ s. k (steps.Basic s))) (either (codes "con") (pinned (λ s. k (steps.Basic s))) (loop_step (λ s. k (steps.Loop s))))
+
+-- the steps with names behind their word, and those of `constant_step`
+unfoldable pub named_step : (Step → Form) → Form
+named_step k =
+    either (codes "assign") (assignment (λ p. k (steps.Basic (basic.Assign p.0 p.1)))) (either (codes "follow") (assignment (λ p. k (steps.Basic (basic.Follow p.0 p.1))))
+    (either (codes "contract") (names (λ xs. k (steps.Basic (basic.Contract xs)))) (either (codes "expand") (names (λ xs. k (steps.Basic (basic.Expand xs)))) (constant_step k))))
+
+-- a step
+unfoldable pub step : (Step → Form) → Form
+step k =
+    either (codes "skip") (k (steps.Basic basic.Skip)) (either (codes "weaken") (formula 512 (λ f. k (steps.Basic (basic.Weaken f))))
+    (either (codes "strengthen") (formula 512 (λ f. k (steps.Basic (basic.Strengthen f)))) (either (codes "seq") (formula 512 (λ f. k (steps.Basic (basic.Seq f)))) (named_step k))))

@@ -1,0 +1,36 @@
+-- Checking the parts tells what checking the list of edits anew tells.
+use Rattle.std.proofs.Common.{◌≡◌, ◌∙◌, ℕ, List, ap, sym, Option}
+use Rattle.std.specs.Option.{option_map}
+use Rattle.rw_programs.specs.declared.prog.Spec.{Spec}
+use Rattle.rw_programs.specs.declared.applied.Child.{Child}
+use Rattle.rw_sequents.specs.declared.line.Cert.{Cert}
+use Rattle.rw_nodes.specs.declared.edit.Place.{Place}
+use Rattle.rw_nodes.specs.declared.edit.Step.{Step}
+use Rattle.rw_nodes.specs.declared.edit.Edit.{Edit}
+use Rattle.rw_nodes.specs.declared.parts.Parts.{Parts}
+use Rattle.rw_nodes.specs.Parts.{Makes}
+use Rattle.rw_tree.specs.Refusals.{IsGood}
+use Rattle.rw_tree.specs.declared.derived.Derived.{Derived}
+use Rattle.rw_tree.specs.declared.status.Need.{Need}
+use Rattle.rw_tree.specs.declared.status.Status.{Status}
+use Rattle.rw_tree.specs.declared.status.NodeMark.{NodeMark}
+use Rattle.rw_tree.specs.Derived.{derived, root_given}
+use Rattle.rw_tree.specs.Anew.{place_at, child_spec, certified, needs_from, status_of, mark_of, tree_marks, anew}
+use Rattle.rw_tree.proofs.Same.{parts_same}
+
+pub anew_same : (most : ℕ) (l : List Edit) (parts : Parts) → IsGood most l → Makes most l parts → record { nodes = tree_marks parts.main (root_given parts.globals parts.root) } ≡ anew l
+unfolding anew
+anew_same most l parts good m = ap (λ (ps : Parts). record { nodes = tree_marks ps.main (root_given ps.globals ps.root) }) (parts_same most l parts good m)
+
+abbrev mark_with : Place → Status → Option Spec → List Need → NodeMark
+mark_with place status spec needs = record { place = place; status = status; spec = spec; needs = needs }
+
+-- the mark of a node, from its parts
+pub mark_told : (path : List ℕ) (given : Option Child) (step : Option Step) (certs : List (Option Cert)) (d : Derived) (place : Place) (status : Status) (spec : Option Spec) (needs : List Need) →
+    d ≡ derived given step → place ≡ place_at path → needs ≡ needs_from 1 d.obligations (certified certs) → status ≡ status_of d.outcome needs → spec ≡ option_map child_spec given →
+    mark_with place status spec needs ≡ mark_of (record { path = path; given = given; step = step; certs = certs })
+mark_told path given step certs d place status spec needs ed ep en es ew =
+    let needs_are : needs ≡ needs_from 1 (derived given step).obligations (certified certs) = en ∙ ap (λ (x : Derived). needs_from 1 x.obligations (certified certs)) ed in
+    let status_is : status ≡ status_of (derived given step).outcome (needs_from 1 (derived given step).obligations (certified certs)) =
+    es ∙ ap (λ (x : Derived). status_of x.outcome needs) ed ∙ ap (status_of (derived given step).outcome) needs_are in
+    λ i. record { place = ep i; status = status_is i; spec = ew i; needs = needs_are i }

@@ -1,0 +1,126 @@
+-- The tests by the parts are those by the list that makes them.
+use Rattle.std.proofs.Common.{◌≡◌, ℕ, Bool, true, false, ◌&&◌, List, [], ◌∷◌, refl, sym, ap, ◌∙◌, subst, Option, Some, None}
+use Rattle.std.specs.Option.{is_some}
+use Rattle.rw_sequents.specs.declared.line.Cert.{Cert}
+use Rattle.rw_nodes.specs.declared.edit.Place.{Place}
+use Rattle.rw_nodes.specs.declared.edit.Edit.{Edit}
+use Rattle.rw_nodes.specs.declared.edit.Edit.TheVariants as edit
+use Rattle.rw_nodes.specs.declared.node.Node.{Node}
+use Rattle.rw_nodes.specs.declared.parts.Parts.{Parts}
+use Rattle.rw_nodes.specs.Edits.{is_node, has_obligation_of}
+use Rattle.rw_nodes.specs.Nodes.{look, has_obligation}
+use Rattle.rw_nodes.specs.Parts.{Makes, IsPlaced, applied_to, tree_of, parts_of}
+use Rattle.rw_nodes.proofs.Making.{made_by, made_none}
+use Rattle.rw_nodes.proofs.Once.{made_once}
+use Rattle.rw_nodes.proofs.There.{nodes_there, obligations_there}
+use Rattle.rw_tree.specs.declared.refusal.EditRefusal.{EditRefusal}
+use Rattle.rw_tree.specs.declared.refusal.EditRefusal.TheVariants as refusal
+use Rattle.rw_tree.specs.Refusals.{or_refusal, unknown, predicate_in_step, predicate_in_cert, at_place, at_obligation, cert_limit, step_limit, full, refusal_of, IsGood, IsProject}
+use Rattle.rw_tree.specs.Mirror.{early_refusal, late_refusal, refusal_in}
+
+-- what an accepted test says
+pub at_told : (b : Bool) (q : Place) (ask : Option EditRefusal) → at_place b q ask ≡ None → (b ≡ true) × (ask ≡ None)
+at_told true q ask e = (refl, e)
+at_told false q ask e = absurd (cc)
+
+pub obligation_told : (b : Bool) (k : ℕ) (ask : Option EditRefusal) → at_obligation b k ask ≡ None → (b ≡ true) × (ask ≡ None)
+obligation_told true k ask e = (refl, e)
+obligation_told false k ask e = absurd (cc)
+
+pub first_told : (one two : Option EditRefusal) → or_refusal one two ≡ None → (one ≡ None) × (two ≡ None)
+first_told None two e = (refl, e)
+first_told (Some r) two e = absurd (cc)
+
+pub both_none : (one two : Option EditRefusal) → one ≡ None → two ≡ None → or_refusal one two ≡ None
+both_none None two a b = b
+both_none (Some r) two a b = absurd (cc)
+
+-- the parts after an edit are those of the longer list
+pub applied_same : (most : ℕ) (l : List Edit) (e : Edit) → applied_to (parts_of most l) e ≡ parts_of most (e ∷ l)
+applied_same most l (edit.Var p) = refl
+applied_same most l (edit.Root w) = refl
+applied_same most l (edit.Step q s) = refl
+applied_same most l (edit.Clear q) = refl
+applied_same most l (edit.Prove q k c) = refl
+
+module _ (most : ℕ) (l : List Edit) (m : Makes most l (parts_of most l)) where
+  there : (q : Place) → is_node l q.path.kids ≡ true → is_some (look (tree_of l) q.path.kids) ≡ true
+  there q e = nodes_there l (tree_of l) q.path.kids m.main ∙ e
+
+  obligation_there : (q : Place) (k : ℕ) → is_node l q.path.kids ≡ true → has_obligation_of l q.path.kids k ≡ true → has_obligation (tree_of l) q.path.kids k ≡ true
+  obligation_there q k e h = obligations_there l (tree_of l) q.path.kids k m.main ∙ ap (λ b. b && has_obligation_of l q.path.kids k) e ∙ h
+
+  -- an accepted edit is placed
+  pub placed : (e : Edit) → refusal_of most l e ≡ None → IsPlaced (tree_of l) e
+  placed (edit.Var p) h = tt
+  placed (edit.Root w) h = tt
+  placed (edit.Step q s) h = there q (at_told (is_node l q.path.kids) q _ (first_told (unknown (predicate_in_step s)) _ h).1).0
+  placed (edit.Clear q) h = there q (at_told (is_node l q.path.kids) q _ h).0
+  placed (edit.Prove q k c) h =
+      let t = at_told (is_node l q.path.kids) q _ (first_told (unknown (predicate_in_cert c)) _ h).1 in
+      obligation_there q k t.0 (obligation_told (has_obligation_of l q.path.kids k) k (cert_limit c) t.1).0
+
+-- good edits make their project
+pub made_good : (most : ℕ) (l : List Edit) → IsGood most l → Makes most l (parts_of most l)
+made_good most [] good = made_none most
+made_good most (e ∷ l) good =
+    let m = made_good most l good.0 in
+    subst (Makes most (e ∷ l)) (applied_same most l e) (made_by most l (parts_of most l) m e (placed most l m e good.1))
+
+pub parts_same : (most : ℕ) (l : List Edit) (parts : Parts) → IsGood most l → Makes most l parts → parts ≡ parts_of most l
+parts_same most l parts good m = made_once most l parts (parts_of most l) m (made_good most l good)
+
+or_at : (b : Bool) (q : Place) (one two : Option EditRefusal) → or_refusal (at_place b q one) two ≡ at_place b q (or_refusal one two)
+or_at true q one two = refl
+or_at false q one two = refl
+
+or_or : (one two three : Option EditRefusal) → or_refusal (or_refusal one two) three ≡ or_refusal one (or_refusal two three)
+or_or None two three = refl
+or_or (Some r) two three = refl
+
+no_more : (o : Option EditRefusal) → or_refusal o None ≡ o
+no_more None = refl
+no_more (Some r) = refl
+
+-- what is asked of an obligation is asked where the node is there
+and_asked : (b c : Bool) (q : Place) (k : ℕ) (ask : Option EditRefusal) → at_place b q (at_obligation (b && c) k ask) ≡ at_place b q (at_obligation c k ask)
+and_asked true c q k ask = refl
+and_asked false c q k ask = refl
+
+module _ (most : ℕ) (l : List Edit) (m : Makes most l (parts_of most l)) where
+  here : (q : Place) → is_some (look (tree_of l) q.path.kids) ≡ is_node l q.path.kids
+  here q = nodes_there l (tree_of l) q.path.kids m.main
+
+  by_parts : (e : Edit) → refusal_in (parts_of most l) e ≡ refusal_of most l e
+  by_parts (edit.Var p) = refl
+  by_parts (edit.Root w) = refl
+  by_parts (edit.Step q s) =
+      or_or (unknown (predicate_in_step s)) _ _
+      ∙ ap (or_refusal (unknown (predicate_in_step s)))
+      (or_at (is_some (look (tree_of l) q.path.kids)) q (step_limit q.path.kids s (tree_of (edit.Step q s ∷ l))) (full (parts_of most (edit.Step q s ∷ l)))
+      ∙ ap (λ b. at_place b q (or_refusal (step_limit q.path.kids s (tree_of (edit.Step q s ∷ l))) (full (parts_of most (edit.Step q s ∷ l))))) (here q))
+  by_parts (edit.Clear q) =
+      or_at (is_some (look (tree_of l) q.path.kids)) q None (full (parts_of most (edit.Clear q ∷ l)))
+      ∙ ap (λ b. at_place b q (full (parts_of most (edit.Clear q ∷ l)))) (here q)
+  by_parts (edit.Prove q k c) =
+      no_more _
+      ∙ ap (or_refusal (unknown (predicate_in_cert c)))
+      (ap (λ b. at_place b q (at_obligation (has_obligation (tree_of l) q.path.kids k) k (cert_limit c))) (here q)
+      ∙ ap (λ b. at_place (is_node l q.path.kids) q (at_obligation b k (cert_limit c))) (obligations_there l (tree_of l) q.path.kids k m.main)
+      ∙ and_asked (is_node l q.path.kids) (has_obligation_of l q.path.kids k) q k (cert_limit c))
+
+-- the test by the parts is that by the list
+pub refusal_same : (most : ℕ) (l : List Edit) (parts : Parts) → IsGood most l → Makes most l parts → (e : Edit) → refusal_in parts e ≡ refusal_of most l e
+refusal_same most l parts good m e = ap (λ ps. refusal_in ps e) (parts_same most l parts good m) ∙ by_parts most l (made_good most l good) e
+
+-- an edit that no test refuses makes the project of the longer list
+pub made_applied : (most : ℕ) (l : List Edit) (parts : Parts) → IsGood most l → Makes most l parts → (e : Edit) → refusal_in parts e ≡ None → Makes most (e ∷ l) (applied_to parts e)
+made_applied most l parts good m e none =
+    let accepted : refusal_of most l e ≡ None = sym (refusal_same most l parts good m e) ∙ none in
+    subst (Makes most (e ∷ l)) (sym (ap (λ ps. applied_to ps e) (parts_same most l parts good m) ∙ applied_same most l e)) (made_good most (e ∷ l) (good, accepted))
+
+-- some list of good edits makes the project with the edit
+pub is_project : (most : ℕ) (parts : Parts) (e : Edit) (l : List Edit) → IsGood most l → Makes most l parts → refusal_in parts e ≡ None → IsProject (applied_to parts e)
+is_project most parts e l good m none =
+    let accepted : refusal_of most l e ≡ None = sym (refusal_same most l parts good m e) ∙ none in
+    (most, e ∷ l, (good, accepted), made_applied most l parts good m e none)
