@@ -242,32 +242,22 @@ fn no_derived_formula_passes_1024_parts(rt: HostRuntime) -> Result<(), Fail> {
     Ok(())
 }
 
-// The place of a node: 1 is the root's, and those of its kids are twice as much and one more.
-fn push_place(alloc: Global, text: &mut String, node: u32) -> Result<(), Fail> {
-    let mut kids = Vec::new(alloc);
-    let mut at = node;
-    while at > 1 {
-        kids.push(1 + at % 2)?;
-        at /= 2;
-    }
+// The place of a node: 1 is the root's, and those of its kids are twice as much and one more. There are fewer than 2,048.
+fn push_place(text: &mut String, node: u32) -> Result<(), Fail> {
     text.push_str("main")?;
-    for kid in kids.iter().rev() {
-        let number = format!(in alloc; "/{kid}")?;
-        text.push_str(number.as_str())?;
+    for nodes in [1024, 512, 256, 128, 64, 32, 16, 8, 4, 2, 1] {
+        let above: u32 = node.checked_div(nodes).unwrap_or(0);
+        if above > 1 {
+            text.push_str(if above % 2 == 0 { "/1" } else { "/2" })?;
+        }
     }
     Ok(())
 }
 
 // A request with a place.
-fn push_request(
-    alloc: Global,
-    text: &mut String,
-    word: &str,
-    node: u32,
-    rest: &str,
-) -> Result<(), Fail> {
+fn push_request(text: &mut String, word: &str, node: u32, rest: &str) -> Result<(), Fail> {
     text.push_str(word)?;
-    push_place(alloc, text, node)?;
+    push_place(text, node)?;
     text.push_str(rest)?;
     Ok(text.push_str("\n")?)
 }
@@ -277,12 +267,12 @@ fn a_tree_has_at_most_2048_nodes(rt: HostRuntime) -> Result<(), Fail> {
     let alloc = rt.alloc();
     let mut script = String::new(alloc);
     for node in 1..1024 {
-        push_request(alloc, &mut script, "step ", node, " seq true")?;
+        push_request(&mut script, "step ", node, " seq true")?;
     }
-    push_request(alloc, &mut script, "step ", 1024, " weaken true")?;
-    push_request(alloc, &mut script, "step ", 1025, " weaken true")?;
-    push_request(alloc, &mut script, "step ", 1024, " skip")?;
-    push_request(alloc, &mut script, "step ", 1025, " weaken true")?;
+    push_request(&mut script, "step ", 1024, " weaken true")?;
+    push_request(&mut script, "step ", 1025, " weaken true")?;
+    push_request(&mut script, "step ", 1024, " skip")?;
+    push_request(&mut script, "step ", 1025, " weaken true")?;
     let end = "ok 1023\nok 1024\nE7 limit nodes 2048\nok 1025\nok 1026\n";
     ends_with(&rt, alloc, 1, script.as_str(), end)
 }
@@ -310,7 +300,7 @@ fn a_project_weighs_at_most_2000000(rt: HostRuntime) -> Result<(), Fail> {
     let mut script = String::from_str(alloc, "var x : int\n")?;
     let sequence = format!(in alloc; " seq not ({most})")?;
     for node in 1..488 {
-        push_request(alloc, &mut script, "step ", node, sequence.as_str())?;
+        push_request(&mut script, "step ", node, sequence.as_str())?;
     }
     // 63 + 1 + (15 + 1 + (1 + 7)) parts
     let (most_of_it, some, few) = (
@@ -319,12 +309,12 @@ fn a_project_weighs_at_most_2000000(rt: HostRuntime) -> Result<(), Fail> {
         balanced(alloc, 3)?,
     );
     let weaker = format!(in alloc; " weaken ({most_of_it}) and (({some}) and not ({few}))")?;
-    push_request(alloc, &mut script, "step ", 488, weaker.as_str())?;
+    push_request(&mut script, "step ", 488, weaker.as_str())?;
     let root = format!(in alloc; "root x:[not ({most}), not ({most})]\n")?;
     script.push_str(root.as_str())?;
-    push_request(alloc, &mut script, "step ", 489, " skip")?;
-    push_request(alloc, &mut script, "step ", 488, " open")?;
-    push_request(alloc, &mut script, "step ", 489, " skip")?;
+    push_request(&mut script, "step ", 489, " skip")?;
+    push_request(&mut script, "step ", 488, " open")?;
+    push_request(&mut script, "step ", 489, " skip")?;
     script.push_str("root x:[true, true]\n")?;
     let end = "ok 489\nok 490\nE8 full weight 2002048\nok 491\nok 492\nok 493\n";
     ends_with(&rt, alloc, 1, script.as_str(), end)
