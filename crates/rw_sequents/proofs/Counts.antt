@@ -1,11 +1,11 @@
 -- Certificates with few lines are counted.
-use Rattle.std.proofs.Common.{◌≡◌, ◌∙◌, sym, true, false, inl, inr, ℕ, ◌+◌, ◌≤◌, ◌<◌, List, [], ◌∷◌, length, arith}
+use Rattle.std.proofs.Common.{◌≡◌, ◌∙◌, sym, true, false, inl, inr, ℕ, ◌≤◌, ◌<◌, List, [], ◌∷◌, length, arith}
 use Rattle.std.specs.Prelude.{nat_le}
 use Rattle.std.proofs.lemmas.Bool.Decides.{leb_tells}
 use Rattle.rw_terms.specs.Validity.{Each}
 use Rattle.rw_sequents.specs.declared.line.CertLine.{CertLine}
 use Rattle.rw_sequents.specs.declared.line.Cert.{Cert}
-use Rattle.rw_sequents.specs.Counting.{arithmetic_lines, line_count}
+use Rattle.rw_sequents.specs.Counting.{line_count}
 use Rattle.rw_sequents.specs.After.{IsShort, IsCounted}
 
 long : (ls : List CertLine) → length ls ≤ line_count ls

@@ -13,7 +13,9 @@ use Rattle.rw_sequents.specs.declared.line.Verdict.{Verdict}
 use Rattle.rw_sequents.specs.declared.line.Verdict.TheVariants.{Good, Bad}
 use Rattle.rw_terms.specs.Validity.{Each, Valid}
 use Rattle.rw_sequents.specs.Rules.{after_line}
-use Rattle.rw_sequents.specs.After.{Progress, Open, Failed, capped, replaced, step, after_lines, after, Follows, told, verdict, checked, arithmetic, spent}
+use Rattle.rw_sequents.specs.After.{Progress, Open, Failed, capped, replaced, step, after_lines, after, Follows, told, verdict, arithmetic, spent}
+use Rattle.rw_citations.specs.WellMade.{WellMade, NamedValid}
+use Rattle.rw_sequents.specs.Cited.{OfCited, CitedValid}
 use Rattle.rw_sequents.proofs.Lines.{line_sound}
 
 pub stays : (library : Library) (before : ℕ) (ls : List CertLine) (a b c n : ℕ) → after_lines library before (Failed a b c) ls n ≡ Failed a b c
@@ -43,15 +45,16 @@ module _ (library : Library) (before : ℕ) where
   replaced_sound (Fails sub cause) rest ls n m ih e = absurd (not_open library before ls n sub cause m e)
   replaced_sound (Premises ps) rest ls n m ih e = parted (Valid (definitions_of library)) ps rest (within_sound _ (ps ++ rest) ls n m ih e)
 
-  lines_sound : (ls : List CertLine) (gs : List Sequent) (n : ℕ) → after_lines library before (Open gs) ls n ≡ Open [] → Each (Valid (definitions_of library)) gs
-  lines_sound [] gs n e = subst (Each (Valid (definitions_of library))) (sym (none_left gs e)) tt
-  lines_sound (l ∷ ls) [] n e = tt
-  lines_sound (l ∷ ls) (q ∷ rest) n e =
-      let r = replaced_sound (after_line library before q l) rest ls n (n + 1) (λ gs. lines_sound ls gs (n + 1)) e in
-      (line_sound library before q l r.0, r.1)
+  lines_sound : WellMade library → (ls : List CertLine) → Each (OfCited (NamedValid library before)) ls → (gs : List Sequent) (n : ℕ) → after_lines library before (Open gs) ls n ≡ Open [] → Each (Valid (definitions_of library)) gs
+  lines_sound made [] valid gs n e = subst (Each (Valid (definitions_of library))) (sym (none_left gs e)) tt
+  lines_sound made (l ∷ ls) valid [] n e = tt
+  lines_sound made (l ∷ ls) valid (q ∷ rest) n e =
+      let r = replaced_sound (after_line library before q l) rest ls n (n + 1) (λ gs. lines_sound made ls valid.1 gs (n + 1)) e in
+      (line_sound library before made q l valid.0 r.0, r.1)
 
-  pub follows_valid : (q : Sequent) (cert : Cert) → Follows library before q cert → Valid (definitions_of library) q
-  follows_valid q cert e = (lines_sound (take (length cert.lines) cert.lines) (q ∷ []) 1 e).0
+  pub follows_valid : WellMade library → (q : Sequent) (cert : Cert) → CitedValid library before cert → Follows library before q cert → Valid (definitions_of library) q
+  follows_valid made q cert valid e =
+      (lines_sound made (take (length cert.lines) cert.lines) (subst (Each (OfCited (NamedValid library before))) (sym (take-length cert.lines)) valid) (q ∷ []) 1 e).0
 
 -- a certificate that is told good follows
 pub good_follows : (p : Progress) (n : ℕ) → told p n ≡ Good → p ≡ Open []
@@ -60,9 +63,9 @@ good_follows (Open (q ∷ rest)) n e = absurd (cc)
 good_follows (Failed a b c) n e = absurd (cc)
 
 module _ (library : Library) (before : ℕ) where
-  pub good_valid : (q : Sequent) (cert : Cert) (v : Verdict) → v ≡ verdict library before q cert → v ≡ Good → Valid (definitions_of library) q
-  good_valid q cert v is e =
-      follows_valid library before q cert (good_follows (after library before q cert (length cert.lines)) (length cert.lines) (sym is ∙ e))
+  pub good_valid : (q : Sequent) (cert : Cert) (v : Verdict) → v ≡ verdict library before q cert → WellMade library → CitedValid library before cert → v ≡ Good → Valid (definitions_of library) q
+  good_valid q cert v is made valid e =
+      follows_valid library before made q cert valid (good_follows (after library before q cert (length cert.lines)) (length cert.lines) (sym is ∙ e))
 
   whole : (q : Sequent) (cert : Cert) → after library before q cert (length cert.lines) ≡ after_lines library before (Open (q ∷ [])) cert.lines 1
   whole q cert = ap (λ ls. after_lines library before (Open (q ∷ [])) ls 1) (take-length cert.lines)

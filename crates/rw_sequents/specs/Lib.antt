@@ -2,3 +2,5 @@ pub mod Counting
 pub mod Refuted
 pub mod Rules
 pub mod After
+pub mod Cited
+pub mod Table

@@ -10,12 +10,13 @@ use Rattle.rw_goals.specs.Connectives.{left_rule, right_rule}
 use Rattle.rw_goals.specs.Cut.{cut, leave_out}
 use Rattle.rw_axioms.specs.Axioms.{axiom_parts, put_same_axiom, put_other_axiom, extension_axiom, division_axiom}
 use Rattle.rw_equations.specs.Equality.{equation_right, flip, rewrite_left, rewrite_right}
+use Rattle.rw_citations.specs.Cited.{unfold_at_left, unfold_at_right, cite}
 use Rattle.rw_quantifiers.specs.Quantified.{all_at_left, any_at_right, all_at_right, any_at_left}
 use Rattle.rw_sequents.specs.Refuted.{refuted_by}
 use Rattle.rw_sequents.specs.declared.line.CertLine.{CertLine}
 use Rattle.rw_sequents.specs.declared.line.CertLine.TheVariants as line
 
--- by a library, of which lemmas may be cited below a table place; no line cites one yet
+-- by a library, of which lemmas may be cited below a table place
 abbrev pub after_line : Library → ℕ → Sequent → CertLine → Effect
 after_line library before q line.Ax = closed_by closing.Common q
 after_line library before q line.FalseL = closed_by closing.False q
@@ -44,4 +45,7 @@ after_line library before q (line.PutSame a i e) = effect (axiom_parts (put_same
 after_line library before q (line.PutOther a i e j) = effect (axiom_parts (put_other_axiom q.names a i e j)) q
 after_line library before q (line.ArrExt a b) = effect (axiom_parts (extension_axiom q.names a b)) q
 after_line library before q (line.DivMod t u) = effect (axiom_parts (division_axiom q.names t u)) q
+after_line library before q (line.UnfoldL i) = unfold_at_left library q i
+after_line library before q (line.UnfoldR j) = unfold_at_right library q j
+after_line library before q (line.Lemma name ts) = cite library before q name ts
 after_line library before q (line.Lin lines) = refuted_by lines q

@@ -12,6 +12,8 @@ use rw_arith::check::check_lines;
 use rw_arith::error::LinError;
 use rw_arith::line::LinLine;
 use rw_axioms::axioms::{division, extension, put_other, put_same};
+use rw_citations::citing::cite;
+use rw_citations::unfolding::{unfold_at_left, unfold_at_right};
 use rw_equations::equality::{exchange, rewrite_left, rewrite_right, split_equation};
 use rw_goals::closing::{Closing, close};
 use rw_goals::connectives::{Connective, take_apart_left, take_apart_right};
@@ -33,7 +35,7 @@ const WIDE: u8 = 10;
 /// The last arithmetic line is no contradiction.
 const NO_CONTRADICTION: u8 = 11;
 
-/// Applies a line to a goal, which is changed in place. Lemmas may be cited below the table place `before`; no line cites one yet.
+/// Applies a line to a goal, which is changed in place. Lemmas may be cited below the table place `before`.
 pub fn apply_line<L: Ledger>(
     alloc: Global,
     library: &Library,
@@ -74,6 +76,9 @@ pub fn apply_line<L: Ledger>(
         CertLine::PutOther(a, i, e, j) => put_other(alloc, goal, a, i, e, j),
         CertLine::ArrExt(a, b) => extension(alloc, goal, a, b),
         CertLine::DivMod(t, u) => division(alloc, goal, t, u),
+        CertLine::UnfoldL(i) => unfold_at_left(alloc, library, goal, *i),
+        CertLine::UnfoldR(j) => unfold_at_right(alloc, library, goal, *j),
+        CertLine::Lemma(name, terms) => cite(alloc, library, before, goal, name, terms.as_slice()),
         CertLine::Lin(lines) => refute(alloc, goal, lines.as_slice(), steps),
     }
 }

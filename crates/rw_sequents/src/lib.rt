@@ -4,6 +4,7 @@
 pub mod after;
 pub mod check;
 pub mod error;
+pub mod laws;
 pub mod line;
 #[cfg(test)]
 mod tests;

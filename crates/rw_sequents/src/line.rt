@@ -5,12 +5,12 @@ ghost use Rattle.rw_sequents.specs.Counting.{arithmetic_lines, line_count};
 
 use rw_arith::line::LinLine;
 use rw_items::{Boxed, Items};
+use rw_terms::copying::copy_terms;
 use rw_terms::name::Name;
 use rw_terms::term::{Formula, Term};
 use std::alloc::{AllocError, Global};
 
-/// A line of a certificate: a rule with its arguments, in their order. Formulas are numbered from 1. A variant comes with its rule:
-/// those of definitions and lemmas are not built yet.
+/// A line of a certificate: a rule with its arguments, in their order. Formulas are numbered from 1.
 #[derive(Drop)]
 pub enum CertLine {
     /// Some left formula is the same as some right one.
@@ -54,6 +54,11 @@ pub enum CertLine {
     ArrExt(Term, Term),
     /// The dividend and the divisor.
     DivMod(Term, Term),
+    /// A predicate, by its definition.
+    UnfoldL(u32),
+    UnfoldR(u32),
+    /// A lemma, and the terms for its parameters.
+    Lemma(Name, Items<Term>),
     /// Arithmetic lines, of which the last is a contradiction.
     Lin(Items<LinLine>),
 }
@@ -100,6 +105,12 @@ impl CertLine {
             CertLine::PutOther(a, i, e, j) => put_other(alloc, a, i, e, j),
             CertLine::ArrExt(a, b) => array_extension(alloc, a, b),
             CertLine::DivMod(t, u) => division(alloc, t, u),
+            CertLine::UnfoldL(i) => Ok(CertLine::UnfoldL(*i)),
+            CertLine::UnfoldR(j) => Ok(CertLine::UnfoldR(*j)),
+            CertLine::Lemma(name, terms) => Ok(CertLine::Lemma(
+                name.copy(),
+                copy_terms(alloc, terms.as_slice())?,
+            )),
             CertLine::Lin(lines) => Ok(CertLine::Lin(copied(alloc, lines.as_slice())?)),
         }
     }

@@ -4,11 +4,13 @@ ghost use Rattle.std.specs.Prelude.{◌≡◌, ◌<◌};
 
 use crate::check::check;
 use crate::line::{Cert, CertLine, Verdict};
-use rw_goals::library::Library;
+use rw_citations::goal::goal_of;
+use rw_goals::library::{Definition, Item, Lemma, Library};
 use rw_items::{Boxed, Items};
 use rw_steps::Steps;
+use rw_terms::name::Name;
 use rw_terms::sequent::Sequent;
-use rw_terms::term::Formula;
+use rw_terms::term::{Formula, Sort, Term};
 use std::alloc::Global;
 use std::marker::Brand;
 use std::process::Abort;
@@ -28,6 +30,7 @@ fn counted<L: Ledger>(
     alloc: Global,
     blank: Blank,
     library: &Library,
+    before: u32,
     goal: &Sequent,
     cert: &Cert,
 ) -> Result<Verdict, Fail>
@@ -39,14 +42,24 @@ fn counted<L: Ledger>(
     if !cert.has_at_most(100) {
         return Ok(Verdict::Good);
     }
-    Ok(check(alloc, library, 0, goal, cert, &mut steps)?)
+    Ok(check(alloc, library, before, goal, cert, &mut steps)?)
 }
 
 fn verdict(alloc: Global, goal: &Sequent, cert: &Cert) -> Result<Verdict, Fail> {
     let library = Library {
         entries: Items::new(alloc),
     };
-    counted::<Brand>(alloc, Blank::new(1), &library, goal, cert)
+    verdict_at(alloc, &library, 0, goal, cert)
+}
+
+fn verdict_at(
+    alloc: Global,
+    library: &Library,
+    before: u32,
+    goal: &Sequent,
+    cert: &Cert,
+) -> Result<Verdict, Fail> {
+    counted::<Brand>(alloc, Blank::new(1), library, before, goal, cert)
 }
 
 // No formula on the left, and `true` on the right or nothing.
@@ -62,20 +75,24 @@ fn sequent(alloc: Global, is_true: bool) -> Result<Sequent, Fail> {
     })
 }
 
-fn line(word: &str) -> CertLine {
+fn line(alloc: Global, word: &str) -> Result<CertLine, Fail> {
     match word {
-        "dropL" => CertLine::DropL(9),
-        "dropR" => CertLine::DropR(1),
-        "trueR" => CertLine::TrueR,
-        _ => CertLine::Cut(Formula::True),
+        "dropL" => Ok(CertLine::DropL(9)),
+        "dropR" => Ok(CertLine::DropR(1)),
+        "trueR" => Ok(CertLine::TrueR),
+        "ax" => Ok(CertLine::Ax),
+        "impL" => Ok(CertLine::ImpL(1)),
+        "unfoldR" => Ok(CertLine::UnfoldR(1)),
+        "lemma" => Ok(CertLine::Lemma(Name::read(b"Shown")?, x_alone(alloc)?)),
+        _ => Ok(CertLine::Cut(Formula::True)),
     }
 }
 
-// `cut` cuts with `true`, `dropL` drops the ninth formula, and `dropR` the first.
+// `cut` cuts with `true`, `dropL` drops the ninth formula, the other numbers are 1, and `lemma` cites `Shown` for x.
 fn cert(alloc: Global, words: &[&str]) -> Result<Cert, Fail> {
     let mut lines = Items::new(alloc);
     for word in words {
-        lines.push(line(word))?;
+        lines.push(line(alloc, word)?)?;
     }
     Ok(Cert { lines })
 }
@@ -140,5 +157,63 @@ fn copies_are_checked_alike(rt: HostRuntime) -> Result<(), Fail> {
     let cert = cert(alloc, &["cut", "trueR"])?;
     assert_eq!(rt; verdict(alloc, &goal, &cert)?, bad(3, 2));
     assert_eq!(rt; verdict(alloc, &goal, &cert.copy(alloc)?)?, bad(3, 2));
+    Ok(())
+}
+
+fn x_alone(alloc: Global) -> Result<Items<Term>, Fail> {
+    let mut terms = Items::new(alloc);
+    terms.push(Term::Var(Name::read(b"x")?))?;
+    Ok(terms)
+}
+
+fn params(alloc: Global) -> Result<Items<(Name, Sort)>, Fail> {
+    let mut params = Items::new(alloc);
+    params.push((Name::read(b"x")?, Sort::Int))?;
+    Ok(params)
+}
+
+// What is to be shown of x.
+fn lemma(alloc: Global) -> Result<Lemma, Fail> {
+    let mut right = Items::new(alloc);
+    right.push(Formula::App(Name::read(b"Always")?, x_alone(alloc)?))?;
+    Ok(Lemma {
+        name: Name::read(b"Shown")?,
+        params: params(alloc)?,
+        sequent: Sequent {
+            names: params(alloc)?,
+            left: Items::new(alloc),
+            right,
+        },
+    })
+}
+
+// `Always(x)` is `true`, and the lemma says it of x.
+fn table(alloc: Global) -> Result<Library, Fail> {
+    let mut entries = Items::new(alloc);
+    entries.push(Item::Definition(Definition {
+        name: Name::read(b"Always")?,
+        params: params(alloc)?,
+        body: Formula::True,
+    }))?;
+    entries.push(Item::Lemma(lemma(alloc)?))?;
+    Ok(Library { entries })
+}
+
+#[test]
+fn a_lemma_is_cited_behind_its_place(rt: HostRuntime) -> Result<(), Fail> {
+    let alloc = rt.alloc();
+    let library = table(alloc)?;
+    let goal = goal_of(alloc, &lemma(alloc)?)?;
+    let shown = cert(alloc, &["unfoldR", "trueR"])?;
+    assert_eq!(rt;
+        verdict_at(alloc, &library, 1, &goal, &shown)?,
+        Verdict::Good
+    );
+    let cited = cert(alloc, &["lemma", "impL", "trueR", "ax"])?;
+    assert_eq!(rt;
+        verdict_at(alloc, &library, 2, &goal, &cited)?,
+        Verdict::Good
+    );
+    assert_eq!(rt; verdict_at(alloc, &library, 1, &goal, &cited)?, bad(1, 8));
     Ok(())
 }

@@ -1,0 +1,9 @@
+pub mod Keeps
+pub mod Defined
+pub mod Instances
+pub mod Replaces
+pub mod Behind
+pub mod Joined
+pub mod Typed
+pub mod Goals
+pub mod Cites

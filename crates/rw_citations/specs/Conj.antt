@@ -1,0 +1,29 @@
+-- Formulas joined by `or`, and what a sequent says as a formula.
+use Rattle.std.specs.Prelude.{List, [], ◌∷◌, Option, Some, None}
+use Rattle.rw_terms.specs.declared.term.Formula.{Formula}
+use Rattle.rw_terms.specs.declared.term.Formula.TheVariants.{False, And, Or, Imp}
+use Rattle.rw_terms.specs.declared.sequent.Sequent.{Sequent}
+use Rattle.rw_subst.specs.Conj.{conj}
+
+-- a formula and the others behind it, joined from the left
+abbrev pub disj_with : Formula → List Formula → Formula
+disj_with f [] = f
+disj_with f (g ∷ gs) = disj_with (Or f g) gs
+
+-- the formulas joined from the left; of none it is `false`
+abbrev pub disj : List Formula → Formula
+disj [] = False
+disj (f ∷ fs) = disj_with f fs
+
+-- where each left formula holds, some right formula holds
+abbrev pub statement : Sequent → Formula
+statement q = Imp (conj q.left) (disj q.right)
+
+-- one more formula behind those that are joined, if any are
+abbrev pub and_also : Option Formula → Formula → Formula
+and_also None g = g
+and_also (Some f) g = And f g
+
+abbrev pub or_also : Option Formula → Formula → Formula
+or_also None g = g
+or_also (Some f) g = Or f g

@@ -1,0 +1,4 @@
+pub mod Conj
+pub mod Cited
+pub mod Goal
+pub mod WellMade
