@@ -1,0 +1,12 @@
+pub mod Names
+pub mod Places
+pub mod Sorts
+pub mod Predicates
+pub mod Within
+pub mod Lines
+pub mod Kept
+pub mod Rules
+pub mod Removing
+pub mod Without
+pub mod Whole
+pub mod Sound

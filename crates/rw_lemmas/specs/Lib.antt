@@ -1,0 +1,5 @@
+pub mod States
+pub mod Table
+pub mod Refusals
+pub mod Citing
+pub mod Sound
