@@ -1,5 +1,14 @@
+pub mod Bits
 pub mod Lists
+pub mod Agreeing
+pub mod Served
+pub mod Bridged
+pub mod Told
+pub mod Made
 pub mod Roots
+pub mod Guarded
+pub mod Skeletons
 pub mod Needs
+pub mod Lemmas
 pub mod Filled
 pub mod Closed

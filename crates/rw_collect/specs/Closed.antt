@@ -1,5 +1,5 @@
 -- What a closed derivation promises.
-use Rattle.std.specs.Prelude.{◌≡◌, ℕ, true, false, List, [], map, Option, Some}
+use Rattle.std.specs.Prelude.{◌≡◌, ℕ, true, false, List, [], map, Some}
 use Rattle.rw_terms.specs.declared.scope.Entry.{Entry}
 use Rattle.rw_terms.specs.declared.term.Formula.{Formula}
 use Rattle.rw_programs.specs.declared.prog.Spec.{Spec}
@@ -8,17 +8,19 @@ use Rattle.rw_programs.specs.declared.prog.Prog.TheVariants as prog
 use Rattle.rw_programs.specs.State.{State, Fits, Holds}
 use Rattle.rw_programs.specs.Tables.{Table}
 use Rattle.rw_programs.specs.Refine.{Wp, Refines}
+use Rattle.rw_goals.specs.Library.{definitions_of}
 use Rattle.rw_nodes.specs.declared.edit.Edit.{Edit}
 use Rattle.rw_nodes.specs.Edits.{global, globals_of, root_of}
-use Rattle.rw_tree.specs.Refusals.{IsGood}
-use Rattle.rw_tree.specs.Anew.{IsClosed}
+use Rattle.rw_tree.specs.Accepting.{IsGood}
+use Rattle.rw_tree.specs.Anew.{library_of}
+use Rattle.rw_tree.specs.Uses.{IsClosed}
 use Rattle.rw_collect.specs.Code.{code_of}
 
--- what the specifications are read by: no procedures, modules and definitions are there yet
-abbrev pub heads : Table
-heads = record { library = []; is_concrete = false; procs = []; modules = [] }
+-- what the specifications are read by: the definitions of the table; no procedures and modules are there yet
+abbrev pub heads_by : List Edit → Table
+heads_by l = record { library = definitions_of (library_of l); is_concrete = false; procs = []; modules = [] }
 
--- what the collected program is read by
+-- what the collected program is read by: no predicate stands in code
 abbrev pub table : Table
 table = record { library = []; is_concrete = true; procs = []; modules = [] }
 
@@ -32,8 +34,8 @@ pub record CodeRefinesRoot (l : List Edit) : Type 0 where
   pub is_root : root_of l ≡ Some root
   pub program : Prog
   pub is_code : code_of l ≡ Some program
-  pub refines : Refines (scope_of l) (prog.Spec root) heads program table
-  pub preconditions : (f : Formula) (s : State) → Fits (scope_of l) s → Wp heads (prog.Spec root) (λ t. Holds heads.library f t t) s → Wp table program (λ t. Holds heads.library f t t) s
+  pub refines : Refines (scope_of l) (prog.Spec root) (heads_by l) program table
+  pub preconditions : (f : Formula) (s : State) → Fits (scope_of l) s → Wp (heads_by l) (prog.Spec root) (λ t. Holds (heads_by l).library f t t) s → Wp table program (λ t. Holds (heads_by l).library f t t) s
 
 -- where accepted edits make a closed derivation, its program refines its root
 abbrev pub ClosedRefines : Type 0

@@ -1,5 +1,6 @@
 -- The program that a derivation ends in: the skeleton of each node, with its kids' programs in their places.
 use Rattle.std.specs.Prelude.{ℕ, ◌+◌, List, [], ◌∷◌, Option, Some, None, slice_get, unwrap_or}
+use Rattle.rw_terms.specs.declared.scope.Head.{Head}
 use Rattle.rw_programs.specs.declared.prog.Prog.{Prog}
 use Rattle.rw_programs.specs.declared.prog.Prog.TheVariants as prog
 use Rattle.rw_programs.specs.declared.applied.Child.{Child}
@@ -12,6 +13,7 @@ use Rattle.rw_nodes.specs.Edits.{globals_of, root_of}
 use Rattle.rw_nodes.specs.Nodes.{numbered}
 use Rattle.rw_nodes.specs.Parts.{tree_of}
 use Rattle.rw_tree.specs.Derived.{law_at, root_given}
+use Rattle.rw_tree.specs.Anew.{heads_in, library_of}
 
 -- the program of a node, if it has one, by what the node is given
 abbrev pub Codes : Type 0
@@ -41,18 +43,18 @@ abbrev pub filled_by : Law → List Codes → Option Prog
 filled_by (fits a) kids = filled_with a.skeleton (kids_code kids a.children 0)
 filled_by (misfit m) kids = None
 
--- a node has a program where it has a specification, its step's law fits, and each kid has a program
-unfoldable pub code_by : Option Child → Option Step → List Codes → Option Prog
-code_by None s kids = None
-code_by (Some c) None kids = None
-code_by (Some c) (Some s) kids = filled_by (law_at c.context c.spec s) kids
+-- a node has a program where it has a specification, its step's law fits by the heads of predicates, and each kid has a program
+unfoldable pub code_by : List Head → Option Child → Option Step → List Codes → Option Prog
+code_by heads None s kids = None
+code_by heads (Some c) None kids = None
+code_by heads (Some c) (Some s) kids = filled_by (law_at heads c.context c.spec s) kids
 
-abbrev pub code_step : Node-F Codes → Codes
-code_step y given = code_by given y.step y.kids
+abbrev pub code_step : List Head → Node-F Codes → Codes
+code_step heads y given = code_by heads given y.step y.kids
 
-abbrev pub code : Node → Codes
-code = fold-Node Codes code_step
+abbrev pub code : List Head → Node → Codes
+code heads = fold-Node Codes (code_step heads)
 
 -- the program that the live edits end in
 abbrev pub code_of : List Edit → Option Prog
-code_of l = code (tree_of l) (root_given (globals_of l) (root_of l))
+code_of l = code (heads_in (library_of l)) (tree_of l) (root_given (globals_of l) (root_of l))

@@ -9,6 +9,7 @@ pub mod Grafts
 pub mod Counts
 pub mod Stepped
 pub mod Certified
+pub mod Tabled
 pub mod Making
 pub mod Once
 pub mod There

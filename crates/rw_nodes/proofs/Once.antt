@@ -89,5 +89,7 @@ made_once limit l one other a b =
     }) in
     let globals : one.globals ≡ other.globals = a.globals ∙ sym b.globals in
     let roots : one.root ≡ other.root = a.root ∙ sym b.root in
+    let entries : one.library.entries ≡ other.library.entries = a.entries ∙ sym b.entries in
+    let proofs : one.proofs ≡ other.proofs = a.proofs ∙ sym b.proofs in
     let most : one.most ≡ other.most = a.most ∙ sym b.most in
-    λ i. record { globals = globals i; root = roots i; main = tops i; most = most i }
+    λ i. record { globals = globals i; root = roots i; library = record { entries = entries i }; proofs = proofs i; main = tops i; most = most i }

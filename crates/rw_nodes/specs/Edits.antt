@@ -12,6 +12,8 @@ use Rattle.rw_nodes.specs.declared.edit.Edit.{Edit}
 use Rattle.rw_nodes.specs.declared.edit.Edit.TheVariants as edit
 use Rattle.rw_nodes.specs.declared.edit.Step.{Step}
 use Rattle.rw_nodes.specs.declared.edit.Step.TheVariants as step
+use Rattle.rw_library.specs.Entries.{has_entry}
+use Rattle.rw_nodes.specs.Table.{entries_of}
 
 -- a global in the scope of the main tree
 abbrev pub global : Param → Entry
@@ -20,6 +22,11 @@ global p = record { name = p.name; sort = p.sort; kind = kind.Global }
 -- whether a name is among the declared ones
 abbrev pub is_param : List Param → List ℕ → Bool
 is_param params x = list_any (λ p. bytes_eq p.name x) params
+
+-- the declared ones but that of a name
+abbrev pub without_param : List Param → List ℕ → List Param
+without_param [] x = []
+without_param (p ∷ params) x = if bytes_eq p.name x then params else p ∷ without_param params x
 
 -- how many kids and how many obligations a step has
 abbrev pub counts : Step → ℕ × ℕ
@@ -40,7 +47,7 @@ abbrev pub obligations_in : Option Step → ℕ
 obligations_in None = 0
 obligations_in (Some s) = obligations_of s
 
--- the globals, in the order of their declarations
+-- the globals, in the order of their declarations; a name is dropped from them where the table has no entry of it
 abbrev pub globals_of : List Edit → List Param
 globals_of [] = []
 globals_of (edit.Var p ∷ l) = globals_of l ++ p ∷ []
@@ -48,6 +55,10 @@ globals_of (edit.Root w ∷ l) = globals_of l
 globals_of (edit.Step q s ∷ l) = globals_of l
 globals_of (edit.Clear q ∷ l) = globals_of l
 globals_of (edit.Prove q k c ∷ l) = globals_of l
+globals_of (edit.ProveLemma n c ∷ l) = globals_of l
+globals_of (edit.Define d ∷ l) = globals_of l
+globals_of (edit.Lemma m ∷ l) = globals_of l
+globals_of (edit.Drop x ∷ l) = if has_entry x (entries_of l) then globals_of l else without_param (globals_of l) x
 
 -- the root specification that was set last
 abbrev pub root_of : List Edit → Option Spec
@@ -57,6 +68,10 @@ root_of (edit.Root w ∷ l) = Some w
 root_of (edit.Step q s ∷ l) = root_of l
 root_of (edit.Clear q ∷ l) = root_of l
 root_of (edit.Prove q k c ∷ l) = root_of l
+root_of (edit.ProveLemma n c ∷ l) = root_of l
+root_of (edit.Define d ∷ l) = root_of l
+root_of (edit.Lemma m ∷ l) = root_of l
+root_of (edit.Drop x ∷ l) = root_of l
 
 -- the rest of a path behind q, where the path is q or goes on from it
 abbrev pub behind : List ℕ → List ℕ → Option (List ℕ)
@@ -77,6 +92,10 @@ step_said (edit.Root w) p = None
 step_said (edit.Step q s) p = step_set (Some s) (behind q.path.kids p)
 step_said (edit.Clear q) p = step_set None (behind q.path.kids p)
 step_said (edit.Prove q k c) p = None
+step_said (edit.ProveLemma n c) p = None
+step_said (edit.Define d) p = None
+step_said (edit.Lemma m) p = None
+step_said (edit.Drop x) p = None
 
 -- the step at a path: that of the newest edit that speaks of it
 abbrev pub step_at : List Edit → List ℕ → Option Step
@@ -101,6 +120,10 @@ cert_said (edit.Root w) p k = None
 cert_said (edit.Step q s) p k = cert_dropped (Some s) k (behind q.path.kids p)
 cert_said (edit.Clear q) p k = cert_dropped None k (behind q.path.kids p)
 cert_said (edit.Prove q j c) p k = if nat_eq j k then cert_set c (behind q.path.kids p) else None
+cert_said (edit.ProveLemma n c) p k = None
+cert_said (edit.Define d) p k = None
+cert_said (edit.Lemma m) p k = None
+cert_said (edit.Drop x) p k = None
 
 -- the certificate of obligation k at a path: that of the newest edit that speaks of it
 abbrev pub cert_at : List Edit → List ℕ → ℕ → Option Cert

@@ -1,3 +1,4 @@
+pub mod Table
 pub mod Edits
 pub mod Nodes
 pub mod Parts

@@ -3,11 +3,13 @@
 ghost use Rattle.std.specs.Prelude.{◌≡◌, ◌≤◌, IfOk};
 ghost use Rattle.rw_nodes.specs.Edits.{counts, kids_of, obligations_of};
 
+use rw_goals::library::{Definition, Lemma};
 use rw_items::Items;
 use rw_laws::step::BasicStep;
 use rw_loops::step::LoopStep;
 use rw_programs::prog::{Param, Spec};
 use rw_sequents::line::Cert;
+use rw_terms::name::Name;
 use std::alloc::{AllocError, Global};
 
 /// The name of a tree.
@@ -36,7 +38,8 @@ pub enum Step {
     Loop(LoopStep),
 }
 
-/// What an author sets: `Clear` takes the step of a node away. An obligation's number counts from 1.
+/// What an author sets: `Clear` takes the step of a node away, and `Drop` an entry of the table, or else a global. An obligation's
+/// number counts from 1.
 #[derive(Drop)]
 pub enum Edit {
     Var(Param),
@@ -44,6 +47,11 @@ pub enum Edit {
     Step(Place, Step),
     Clear(Place),
     Prove(Place, u32, Cert),
+    /// A lemma's certificate.
+    ProveLemma(Name, Cert),
+    Define(Definition),
+    Lemma(Lemma),
+    Drop(Name),
 }
 
 /// How many kids and how many obligations a step has. It takes no memory.

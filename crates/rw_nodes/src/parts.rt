@@ -8,15 +8,20 @@ ghost use Rattle.rw_nodes.specs.declared.edit.Edit.{Edit};
 ghost use Rattle.rw_nodes.specs.declared.parts.Parts.{Parts};
 
 use crate::node::Node;
+use rw_goals::library::Library;
 use rw_items::Items;
 use rw_programs::prog::{Param, Spec};
+use rw_sequents::line::Cert;
 use std::alloc::Global;
 
-/// A project without statuses. `most` is the weight that it may have, which no edit changes.
+/// A project without statuses. `proofs` has a certificate or none for each entry of the library. `most` is the weight that the project
+/// may have, which no edit changes.
 #[derive(Drop)]
 pub struct Parts {
     pub globals: Items<Param>,
     pub root: Option<Spec>,
+    pub library: Library,
+    pub proofs: Items<Option<Cert>>,
     pub main: Node,
     pub most: u32,
 }
@@ -29,6 +34,10 @@ impl Parts {
         Parts {
             globals: Items::new(alloc),
             root: None,
+            library: Library {
+                entries: Items::new(alloc),
+            },
+            proofs: Items::new(alloc),
             main: Node::blank(alloc),
             most,
         }

@@ -1,6 +1,11 @@
 pub mod Clauses
 pub mod Same
 pub mod Sound
+pub mod Bounded
+pub mod EnteringLemmas
+pub mod UserLemmas
+pub mod RoundLemmas
+pub mod TableLemmas
 pub mod Restored
 pub mod Sizes
 pub mod Counted

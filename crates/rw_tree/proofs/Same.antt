@@ -1,5 +1,5 @@
 -- The tests by the parts are those by the list that makes them.
-use Rattle.std.proofs.Common.{◌≡◌, ℕ, Bool, true, false, ◌&&◌, List, [], ◌∷◌, refl, sym, ap, ◌∙◌, subst, Option, Some, None}
+use Rattle.std.proofs.Common.{◌≡◌, ℕ, Bool, true, false, ◌&&◌, if◌then◌else◌, List, [], ◌∷◌, map, refl, sym, ap, ◌∙◌, subst, Option, Some, None}
 use Rattle.std.specs.Option.{is_some}
 use Rattle.rw_sequents.specs.declared.line.Cert.{Cert}
 use Rattle.rw_nodes.specs.declared.edit.Place.{Place}
@@ -7,15 +7,23 @@ use Rattle.rw_nodes.specs.declared.edit.Edit.{Edit}
 use Rattle.rw_nodes.specs.declared.edit.Edit.TheVariants as edit
 use Rattle.rw_nodes.specs.declared.node.Node.{Node}
 use Rattle.rw_nodes.specs.declared.parts.Parts.{Parts}
-use Rattle.rw_nodes.specs.Edits.{is_node, has_obligation_of}
+use Rattle.rw_programs.specs.declared.prog.Param.{Param}
+use Rattle.rw_goals.specs.declared.library.Item.{Item}
+use Rattle.rw_goals.specs.declared.library.Item.TheVariants as item
+use Rattle.rw_library.specs.Entries.{has_entry, heads_of}
+use Rattle.rw_nodes.specs.Table.{table_of, entry_in, proof_in, entries_of, proofs_of}
+use Rattle.rw_nodes.specs.Edits.{globals_of, root_of, without_param, is_node, has_obligation_of}
 use Rattle.rw_nodes.specs.Nodes.{look, has_obligation}
-use Rattle.rw_nodes.specs.Parts.{Makes, IsPlaced, applied_to, tree_of, parts_of}
+use Rattle.rw_nodes.specs.Parts.{Makes, IsPlaced, applied_to, tree_of, parts_of, less_entry}
+use Rattle.rw_nodes.proofs.Tabled.{put_entries, put_proofs, prove_entries, prove_proofs, without_entries, without_proofs, without_none}
 use Rattle.rw_nodes.proofs.Making.{made_by, made_none}
 use Rattle.rw_nodes.proofs.Once.{made_once}
 use Rattle.rw_nodes.proofs.There.{nodes_there, obligations_there}
 use Rattle.rw_tree.specs.declared.refusal.EditRefusal.{EditRefusal}
 use Rattle.rw_tree.specs.declared.refusal.EditRefusal.TheVariants as refusal
-use Rattle.rw_tree.specs.Refusals.{or_refusal, unknown, predicate_in_step, predicate_in_cert, at_place, at_obligation, cert_limit, step_limit, full, refusal_of, IsGood, IsProject}
+use Rattle.rw_tree.specs.Refusals.{or_refusal, unknown, predicate_in_step, unknown_in_cert, at_place, at_obligation, cert_limit, step_limit, full}
+use Rattle.rw_tree.specs.Entering.{define_refusal, order_refusal, sorts_refusal}
+use Rattle.rw_tree.specs.Accepting.{refusal_of, IsGood, IsProject}
 use Rattle.rw_tree.specs.Mirror.{early_refusal, late_refusal, refusal_in}
 
 -- what an accepted test says
@@ -35,6 +43,21 @@ pub both_none : (one two : Option EditRefusal) → one ≡ None → two ≡ None
 both_none None two a b = b
 both_none (Some r) two a b = absurd (cc)
 
+-- the parts with another table
+abbrev table_parts : ℕ → List Edit → List Param → List Item → List (Option Cert) → Parts
+table_parts most l globals entries proofs = record { globals = globals; root = root_of l; library = record { entries = entries }; proofs = proofs; main = tree_of l; most = most }
+
+with_table : (most : ℕ) (l : List Edit) {es fs : List Item} {ps qs : List (Option Cert)} → es ≡ fs → ps ≡ qs → table_parts most l (globals_of l) es ps ≡ table_parts most l (globals_of l) fs qs
+with_table most l ee ep = λ i. table_parts most l (globals_of l) (ee i) (ep i)
+
+dropped_same : (most : ℕ) (l : List Edit) (x : List ℕ) (b : Bool) → has_entry x (entries_of l) ≡ b →
+    (if b then less_entry (parts_of most l) x else record (parts_of most l) { globals = without_param (globals_of l) x })
+    ≡ table_parts most l (if b then globals_of l else without_param (globals_of l) x) (entries_of (edit.Drop x ∷ l)) (proofs_of (edit.Drop x ∷ l))
+dropped_same most l x true is = with_table most l (sym (without_entries (table_of l) x)) (sym (without_proofs (table_of l) x))
+dropped_same most l x false is =
+    let same : table_of l ≡ table_of (edit.Drop x ∷ l) = sym (without_none (table_of l) x is) in
+    λ i. table_parts most l (without_param (globals_of l) x) (map entry_in (same i)) (map proof_in (same i))
+
 -- the parts after an edit are those of the longer list
 pub applied_same : (most : ℕ) (l : List Edit) (e : Edit) → applied_to (parts_of most l) e ≡ parts_of most (e ∷ l)
 applied_same most l (edit.Var p) = refl
@@ -42,6 +65,10 @@ applied_same most l (edit.Root w) = refl
 applied_same most l (edit.Step q s) = refl
 applied_same most l (edit.Clear q) = refl
 applied_same most l (edit.Prove q k c) = refl
+applied_same most l (edit.ProveLemma x c) = with_table most l (sym (prove_entries (table_of l) x c)) (sym (prove_proofs (table_of l) x c))
+applied_same most l (edit.Define d) = with_table most l (sym (put_entries (table_of l) (item.Definition d))) (sym (put_proofs (table_of l) (item.Definition d)))
+applied_same most l (edit.Lemma k) = with_table most l (sym (put_entries (table_of l) (item.Lemma k))) (sym (put_proofs (table_of l) (item.Lemma k)))
+applied_same most l (edit.Drop x) = dropped_same most l x (has_entry x (entries_of l)) refl
 
 module _ (most : ℕ) (l : List Edit) (m : Makes most l (parts_of most l)) where
   there : (q : Place) → is_node l q.path.kids ≡ true → is_some (look (tree_of l) q.path.kids) ≡ true
@@ -54,11 +81,15 @@ module _ (most : ℕ) (l : List Edit) (m : Makes most l (parts_of most l)) where
   pub placed : (e : Edit) → refusal_of most l e ≡ None → IsPlaced (tree_of l) e
   placed (edit.Var p) h = tt
   placed (edit.Root w) h = tt
-  placed (edit.Step q s) h = there q (at_told (is_node l q.path.kids) q _ (first_told (unknown (predicate_in_step s)) _ h).1).0
+  placed (edit.Step q s) h = there q (at_told (is_node l q.path.kids) q _ (first_told (unknown (predicate_in_step (heads_of (entries_of l)) s)) _ h).1).0
   placed (edit.Clear q) h = there q (at_told (is_node l q.path.kids) q _ h).0
   placed (edit.Prove q k c) h =
-      let t = at_told (is_node l q.path.kids) q _ (first_told (unknown (predicate_in_cert c)) _ h).1 in
+      let t = at_told (is_node l q.path.kids) q _ (first_told (unknown (unknown_in_cert (entries_of l) c)) _ h).1 in
       obligation_there q k t.0 (obligation_told (has_obligation_of l q.path.kids k) k (cert_limit c) t.1).0
+  placed (edit.ProveLemma x c) h = tt
+  placed (edit.Define d) h = tt
+  placed (edit.Lemma k) h = tt
+  placed (edit.Drop x) h = tt
 
 -- good edits make their project
 pub made_good : (most : ℕ) (l : List Edit) → IsGood most l → Makes most l (parts_of most l)
@@ -95,8 +126,8 @@ module _ (most : ℕ) (l : List Edit) (m : Makes most l (parts_of most l)) where
   by_parts (edit.Var p) = refl
   by_parts (edit.Root w) = refl
   by_parts (edit.Step q s) =
-      or_or (unknown (predicate_in_step s)) _ _
-      ∙ ap (or_refusal (unknown (predicate_in_step s)))
+      or_or (unknown (predicate_in_step (heads_of (entries_of l)) s)) _ _
+      ∙ ap (or_refusal (unknown (predicate_in_step (heads_of (entries_of l)) s)))
       (or_at (is_some (look (tree_of l) q.path.kids)) q (step_limit q.path.kids s (tree_of (edit.Step q s ∷ l))) (full (parts_of most (edit.Step q s ∷ l)))
       ∙ ap (λ b. at_place b q (or_refusal (step_limit q.path.kids s (tree_of (edit.Step q s ∷ l))) (full (parts_of most (edit.Step q s ∷ l))))) (here q))
   by_parts (edit.Clear q) =
@@ -104,10 +135,14 @@ module _ (most : ℕ) (l : List Edit) (m : Makes most l (parts_of most l)) where
       ∙ ap (λ b. at_place b q (full (parts_of most (edit.Clear q ∷ l)))) (here q)
   by_parts (edit.Prove q k c) =
       no_more _
-      ∙ ap (or_refusal (unknown (predicate_in_cert c)))
+      ∙ ap (or_refusal (unknown (unknown_in_cert (entries_of l) c)))
       (ap (λ b. at_place b q (at_obligation (has_obligation (tree_of l) q.path.kids k) k (cert_limit c))) (here q)
       ∙ ap (λ b. at_place (is_node l q.path.kids) q (at_obligation b k (cert_limit c))) (obligations_there l (tree_of l) q.path.kids k m.main)
       ∙ and_asked (is_node l q.path.kids) (has_obligation_of l q.path.kids k) q k (cert_limit c))
+  by_parts (edit.ProveLemma x c) = no_more _
+  by_parts (edit.Define d) = ap (λ ps. or_refusal (define_refusal (entries_of l) d) (or_refusal (full ps) (or_refusal (order_refusal (entries_of l) d) (sorts_refusal (parts_of most l) d)))) (applied_same most l (edit.Define d))
+  by_parts (edit.Lemma k) = no_more _
+  by_parts (edit.Drop x) = no_more _
 
 -- the test by the parts is that by the list
 pub refusal_same : (most : ℕ) (l : List Edit) (parts : Parts) → IsGood most l → Makes most l parts → (e : Edit) → refusal_in parts e ≡ refusal_of most l e

@@ -11,6 +11,8 @@ use Rattle.rw_nodes.specs.declared.edit.Edit.{Edit}
 use Rattle.rw_nodes.specs.declared.edit.Edit.TheVariants as edit
 use Rattle.rw_nodes.specs.declared.node.Node.{Node, out-Node, out-roll-Node}
 use Rattle.rw_nodes.specs.declared.parts.Parts.{Parts}
+use Rattle.rw_library.specs.Entries.{heads_of}
+use Rattle.rw_nodes.specs.Table.{entries_of}
 use Rattle.rw_nodes.specs.Edits.{kids_of, kids_in, obligations_in, cert_at, cert_set, cert_dropped, behind, is_node, has_obligation_of}
 use Rattle.rw_nodes.specs.Nodes.{look, Layer, seen, cert_seen, changed, renewed, fresh_node, with_cert, size, total}
 use Rattle.rw_nodes.specs.Parts.{Makes, MakesTree, IsPlaced, tree_of, parts_of, set_step, set_cert}
@@ -20,7 +22,8 @@ use Rattle.rw_nodes.proofs.Kids.{kid_each}
 use Rattle.rw_tree.specs.declared.refusal.EditRefusal.{EditRefusal}
 use Rattle.rw_tree.specs.declared.refusal.EditRefusal.TheVariants as refusal
 use Rattle.rw_tree.specs.declared.refusal.Which.TheVariants as which
-use Rattle.rw_tree.specs.Refusals.{or_refusal, unknown, predicate_in_step, predicate_in_cert, is_light_term, is_shallow_term, passes, cert_limit, step_limit, tree_limit, text_limit, full, refusal_of, IsGood}
+use Rattle.rw_tree.specs.Refusals.{or_refusal, unknown, predicate_in_step, unknown_in_cert, is_light_term, is_shallow_term, passes, cert_limit, step_limit, tree_limit, text_limit, full}
+use Rattle.rw_tree.specs.Accepting.{refusal_of, IsGood}
 use Rattle.rw_tree.specs.Anew.{certified}
 use Rattle.rw_tree.specs.Mirror.{HasFewLines, AreSound}
 use Rattle.rw_tree.proofs.Same.{at_told, obligation_told, first_told, placed, made_good, parts_same}
@@ -34,7 +37,7 @@ short_told false false c e = elim (leb_tells (line_count c.lines) 4096) [
   | inr h ↦ absurd (let f : Some (refusal.Limit which.Lines 4096) ≡ None = rw h.0 at e in cc)
 ]
 
-is_short : (c : Cert) → cert_limit c ≡ None → line_count c.lines ≤ 4096
+pub is_short : (c : Cert) → cert_limit c ≡ None → line_count c.lines ≤ 4096
 is_short c e = short_told (not (list_all (passes is_light is_light_term) c.lines)) (not (list_all (passes is_shallow is_shallow_term) c.lines)) c e
 
 kept : (b : Bool) (old : Option Cert) (c : Cert) → unwrap_or (if b then Some None else None) old ≡ Some c → old ≡ Some c
@@ -57,10 +60,14 @@ few_lines : (most : ℕ) (l : List Edit) → IsGood most l → (p : List ℕ) (k
 few_lines most [] good p k c e = absurd (cc)
 few_lines most (edit.Var x ∷ l) good p k c e = few_lines most l good.0 p k c e
 few_lines most (edit.Root w ∷ l) good p k c e = few_lines most l good.0 p k c e
+few_lines most (edit.ProveLemma x d ∷ l) good p k c e = few_lines most l good.0 p k c e
+few_lines most (edit.Define d ∷ l) good p k c e = few_lines most l good.0 p k c e
+few_lines most (edit.Lemma m ∷ l) good p k c e = few_lines most l good.0 p k c e
+few_lines most (edit.Drop x ∷ l) good p k c e = few_lines most l good.0 p k c e
 few_lines most (edit.Step q s ∷ l) good p k c e = few_lines most l good.0 p k c (step_keeps (Some s) k (behind q.path.kids p) (cert_at l p k) c e)
 few_lines most (edit.Clear q ∷ l) good p k c e = few_lines most l good.0 p k c (step_keeps None k (behind q.path.kids p) (cert_at l p k) c e)
 few_lines most (edit.Prove q j d ∷ l) good p k c e =
-    let asked = (at_told (is_node l q.path.kids) q _ (first_told (unknown (predicate_in_cert d)) _ good.1).1).1 in
+    let asked = (at_told (is_node l q.path.kids) q _ (first_told (unknown (unknown_in_cert (entries_of l) d)) _ good.1).1).1 in
     let short = is_short d (obligation_told (has_obligation_of l q.path.kids j) j (cert_limit d) asked).1 in
     set_or_kept (nat_eq j k) d (behind q.path.kids p) (cert_at l p k) c short (few_lines most l good.0 p k c) e
 
@@ -92,8 +99,12 @@ few_nodes : (most : ℕ) (l : List Edit) → IsGood most l → size (tree_of l) 
 few_nodes most [] good = let one : size (tree_of []) ≡ 1 = size-out (tree_of []) ∙ simp out-roll-Node in omega (arith, one)
 few_nodes most (edit.Var x ∷ l) good = few_nodes most l good.0
 few_nodes most (edit.Root w ∷ l) good = few_nodes most l good.0
+few_nodes most (edit.ProveLemma x d ∷ l) good = few_nodes most l good.0
+few_nodes most (edit.Define d ∷ l) good = few_nodes most l good.0
+few_nodes most (edit.Lemma m ∷ l) good = few_nodes most l good.0
+few_nodes most (edit.Drop x ∷ l) good = few_nodes most l good.0
 few_nodes most (edit.Step q s ∷ l) good =
-    let asked = (at_told (is_node l q.path.kids) q _ (first_told (unknown (predicate_in_step s)) _ good.1).1).1 in
+    let asked = (at_told (is_node l q.path.kids) q _ (first_told (unknown (predicate_in_step (heads_of (entries_of l)) s)) _ good.1).1).1 in
     let limits = (first_told (step_limit q.path.kids s (tree_of (edit.Step q s ∷ l))) _ asked).0 in
     few_told q.path.kids (kids_of s) (tree_of (edit.Step q s ∷ l)) (first_told (text_limit s) _ limits).1
 few_nodes most (edit.Clear q ∷ l) good =

@@ -1,5 +1,6 @@
 -- What the laws derive for the nodes of a tree, from the root downwards.
 use Rattle.std.specs.Prelude.{ℕ, ◌+◌, List, [], ◌∷◌, ◌++◌, map, false, Option, Some, None, slice_get}
+use Rattle.rw_terms.specs.declared.scope.Head.{Head}
 use Rattle.rw_programs.specs.declared.prog.Param.{Param}
 use Rattle.rw_programs.specs.declared.prog.Spec.{Spec}
 use Rattle.rw_programs.specs.declared.applied.Context.{Context}
@@ -23,10 +24,10 @@ abbrev pub root_given : List Param → Option Spec → Option Child
 root_given globals None = None
 root_given globals (Some w) = Some (record { context = main_context globals; spec = w })
 
--- what the law of a step says of a specification: no predicates are declared yet
-abbrev pub law_at : Context → Spec → Step → Law
-law_at context w (step.Basic s) = law_of context [] w s
-law_at context w (step.Loop s) = loop_law context [] w s
+-- what the law of a step says of a specification, by the heads of predicates
+abbrev pub law_at : List Head → Context → Spec → Step → Law
+law_at heads context w (step.Basic s) = law_of context heads w s
+law_at heads context w (step.Loop s) = loop_law context heads w s
 
 -- what a law derives: a misfit gives its kids nothing and owes nothing
 abbrev pub derived_by : Law → Derived
@@ -34,10 +35,10 @@ derived_by (fits a) = record { outcome = outcome.Fits; children = a.children; ob
 derived_by (misfit m) = record { outcome = outcome.Misfit m; children = []; obligations = [] }
 
 -- what is derived for a node, by the specification that it is given and by its step
-unfoldable pub derived : Option Child → Option Step → Derived
-derived None s = record { outcome = outcome.NoSpec; children = []; obligations = [] }
-derived (Some c) None = record { outcome = outcome.Open; children = []; obligations = [] }
-derived (Some c) (Some s) = derived_by (law_at c.context c.spec s)
+unfoldable pub derived : List Head → Option Child → Option Step → Derived
+derived heads None s = record { outcome = outcome.NoSpec; children = []; obligations = [] }
+derived heads (Some c) None = record { outcome = outcome.Open; children = []; obligations = [] }
+derived heads (Some c) (Some s) = derived_by (law_at heads c.context c.spec s)
 
 -- a node with what it is given
 pub record Site : Type 0 where
@@ -55,9 +56,9 @@ abbrev pub kid_sites : List Sites → List Child → ℕ → List ℕ → List S
 kid_sites [] children i path = []
 kid_sites (f ∷ fs) children i path = f (slice_get children i) (path ++ (i + 1) ∷ []) ++ kid_sites fs children (i + 1) path
 
-abbrev pub sites_step : Node-F Sites → Sites
-sites_step y given path =
-    record { path = path; given = given; step = y.step; certs = y.certs } ∷ kid_sites y.kids (derived given y.step).children 0 path
+abbrev pub sites_step : List Head → Node-F Sites → Sites
+sites_step heads y given path =
+    record { path = path; given = given; step = y.step; certs = y.certs } ∷ kid_sites y.kids (derived heads given y.step).children 0 path
 
-abbrev pub sites : Node → Sites
-sites = fold-Node Sites sites_step
+abbrev pub sites : List Head → Node → Sites
+sites heads = fold-Node Sites (sites_step heads)

@@ -1,6 +1,7 @@
--- Which test refuses an edit after a list of edits.
+-- The tests of globals, roots, steps and certificates.
 use Rattle.std.specs.Prelude.{◌≡◌, ℕ, Bool, true, false, min, not, ◌&&◌, ◌||◌, if◌then◌else◌, nat_le, nat_lt, length, List, [], ◌∷◌, map, Option, Some, None}
 use Rattle.rw_terms.specs.declared.scope.Entry.{Entry}
+use Rattle.rw_terms.specs.declared.scope.Head.{Head}
 use Rattle.rw_terms.specs.declared.term.Term.{Term}
 use Rattle.rw_terms.specs.declared.term.Formula.{Formula}
 use Rattle.rw_terms.specs.Size.{term_weight, term_depth}
@@ -14,9 +15,10 @@ use Rattle.rw_sequents.specs.declared.line.Cert.{Cert}
 use Rattle.rw_sequents.specs.declared.line.CertLine.{CertLine}
 use Rattle.rw_sequents.specs.declared.line.CertLine.TheVariants as line
 use Rattle.rw_sequents.specs.Counting.{line_count}
+use Rattle.rw_goals.specs.declared.library.Item.{Item}
+use Rattle.rw_library.specs.Entries.{has_entry, has_lemma, heads_of}
 use Rattle.rw_nodes.specs.declared.edit.Place.{Place}
 use Rattle.rw_nodes.specs.declared.edit.Edit.{Edit}
-use Rattle.rw_nodes.specs.declared.edit.Edit.TheVariants as edit
 use Rattle.rw_tree.specs.declared.refusal.EditRefusal.{EditRefusal}
 use Rattle.rw_tree.specs.declared.refusal.EditRefusal.TheVariants as refusal
 use Rattle.rw_tree.specs.declared.refusal.Which.TheVariants as which
@@ -29,9 +31,8 @@ use Rattle.rw_nodes.specs.declared.edit.Step.{Step}
 use Rattle.rw_nodes.specs.declared.edit.Step.TheVariants as step
 use Rattle.rw_nodes.specs.declared.node.Node.{Node}
 use Rattle.rw_nodes.specs.declared.parts.Parts.{Parts}
-use Rattle.rw_nodes.specs.Edits.{global, is_param, globals_of, kids_of, is_node, has_obligation_of}
+use Rattle.rw_nodes.specs.Edits.{global, is_param, kids_of, is_node}
 use Rattle.rw_nodes.specs.Nodes.{size}
-use Rattle.rw_nodes.specs.Parts.{Makes, tree_of, parts_of}
 use Rattle.rw_tree.specs.Weight.{parts_weight}
 
 -- the first of two refusals, if any
@@ -44,19 +45,22 @@ abbrev pub frame_unknown : List Param → List (List ℕ) → Option (List ℕ)
 frame_unknown globals [] = None
 frame_unknown globals (x ∷ names) = if is_param globals x then frame_unknown globals names else Some x
 
--- the first name of a specification, frame first, that is no global
-abbrev pub root_unknown : List Param → Spec → Option (List ℕ)
-root_unknown globals w =
-    first_name (frame_unknown globals w.frame) (first_name (unknown_in (map global globals) [] w.pre) (unknown_in (map global globals) [] w.post))
+-- the first name of a specification, frame first, that is no global, or predicate that is not defined
+abbrev pub root_unknown : List Param → List Head → Spec → Option (List ℕ)
+root_unknown globals heads w =
+    first_name (frame_unknown globals w.frame) (first_name (unknown_in (map global globals) heads w.pre) (unknown_in (map global globals) heads w.post))
 
 -- within the limits, but ill-sorted or with an initial variable of a name that is not among these
-abbrev pub is_ill_formed : List Entry → List (List ℕ) → Formula → Bool
-is_ill_formed scope initials f = is_small f && (initial_outside initials f || is_ill_sorted scope [] f [])
+abbrev pub is_ill_formed : List Entry → List Head → List (List ℕ) → Formula → Bool
+is_ill_formed scope heads initials f = is_small f && (initial_outside initials f || is_ill_sorted scope heads f [])
 
 -- the first ill-formed part: a frame with a name twice is part 0, the precondition is part 1, the postcondition part 2
-abbrev pub ill_formed_part : List Entry → Spec → Option ℕ
-ill_formed_part scope w =
-    if is_twice w.frame then Some 0 else if is_ill_formed scope [] w.pre then Some 1 else if is_ill_formed scope w.frame w.post then Some 2 else None
+abbrev pub ill_formed_part : List Entry → List Head → Spec → Option ℕ
+ill_formed_part scope heads w =
+    if is_twice w.frame then Some 0
+    else if is_ill_formed scope heads [] w.pre then Some 1
+    else if is_ill_formed scope heads w.frame w.post then Some 2
+    else None
 
 -- the first limit that a specification passes
 abbrev pub past_limit : Spec → Option EditRefusal
@@ -76,13 +80,16 @@ ill_formed None = None
 ill_formed (Some part) = Some (refusal.Sort part)
 
 -- the tests of a root, in order: unknown names, ill-formed parts, limits
-unfoldable pub root_refusal : List Param → Spec → Option EditRefusal
-root_refusal globals w = or_refusal (unknown (root_unknown globals w)) (or_refusal (ill_formed (ill_formed_part (map global globals) w)) (past_limit w))
+unfoldable pub root_refusal : List Param → List Head → Spec → Option EditRefusal
+root_refusal globals heads w =
+    or_refusal (unknown (root_unknown globals heads w)) (or_refusal (ill_formed (ill_formed_part (map global globals) heads w)) (past_limit w))
 
--- the tests of a global: its name is fresh, and there are fewer than 64
-abbrev pub var_refusal : List Param → Param → Option EditRefusal
-var_refusal globals p =
-    if is_param globals p.name then Some (refusal.Duplicate p.name) else if nat_le 64 (length globals) then Some (refusal.Limit which.Globals 64) else None
+-- the tests of a global: its name is no global and not in the table, and there are fewer than 64
+abbrev pub var_refusal : List Param → List Item → Param → Option EditRefusal
+var_refusal globals entries p =
+    if is_param globals p.name || has_entry p.name entries then Some (refusal.Duplicate p.name)
+    else if nat_le 64 (length globals) then Some (refusal.Limit which.Globals 64)
+    else None
 
 -- the place is a node, and then what is asked there
 abbrev pub at_place : Bool → Place → Option EditRefusal → Option EditRefusal
@@ -113,6 +120,7 @@ passes formula term (line.PutSame a i e) = term a && (term i && term e)
 passes formula term (line.PutOther a i e j) = term a && (term i && (term e && term j))
 passes formula term (line.ArrExt a b) = term a && term b
 passes formula term (line.DivMod t u) = term t && term u
+passes formula term (line.Lemma n ts) = list_all term ts
 passes formula term _ = true
 
 -- the first limit that a certificate passes: the weight and the depth of each formula and term in it, and 4096 lines, rule lines and
@@ -153,23 +161,29 @@ text_limit (step.Loop s) =
     else if nat_lt 32 (length (guards_of s)) then Some (refusal.Limit which.Guards 32)
     else None
 
--- the first predicate of a step: none is declared yet
-abbrev pub predicate_in_step : Step → Option (List ℕ)
-predicate_in_step (step.Basic (basic.Weaken f)) = predicate_unknown_in [] f
-predicate_in_step (step.Basic (basic.Strengthen f)) = predicate_unknown_in [] f
-predicate_in_step (step.Basic (basic.Seq f)) = predicate_unknown_in [] f
-predicate_in_step (step.Basic (basic.SeqCon names f)) = predicate_unknown_in [] f
-predicate_in_step (step.Basic _) = None
-predicate_in_step (step.Loop s) = first_of_names (map (predicate_unknown_in []) (guards_of s))
+-- the first predicate of a step that is not defined
+abbrev pub predicate_in_step : List Head → Step → Option (List ℕ)
+predicate_in_step heads (step.Basic (basic.Weaken f)) = predicate_unknown_in heads f
+predicate_in_step heads (step.Basic (basic.Strengthen f)) = predicate_unknown_in heads f
+predicate_in_step heads (step.Basic (basic.Seq f)) = predicate_unknown_in heads f
+predicate_in_step heads (step.Basic (basic.SeqCon names f)) = predicate_unknown_in heads f
+predicate_in_step heads (step.Basic _) = None
+predicate_in_step heads (step.Loop s) = first_of_names (map (predicate_unknown_in heads) (guards_of s))
 
--- the first predicate of a line
-abbrev pub predicate_in_line : CertLine → Option (List ℕ)
-predicate_in_line (line.Cut f) = predicate_unknown_in [] f
-predicate_in_line _ = None
+-- the name, unless it is there
+abbrev pub unless_there : Bool → List ℕ → Option (List ℕ)
+unless_there true x = None
+unless_there false x = Some x
 
--- the first predicate of a certificate
-abbrev pub predicate_in_cert : Cert → Option (List ℕ)
-predicate_in_cert c = first_of_names (map predicate_in_line c.lines)
+-- the first predicate of a line that is not defined, or the lemma that it cites, where there is none of that name
+abbrev pub unknown_in_line : List Head → List Item → CertLine → Option (List ℕ)
+unknown_in_line heads entries (line.Cut f) = predicate_unknown_in heads f
+unknown_in_line heads entries (line.Lemma n ts) = unless_there (has_lemma n entries) n
+unknown_in_line heads entries _ = None
+
+-- the first such name of a certificate
+abbrev pub unknown_in_cert : List Item → Cert → Option (List ℕ)
+unknown_in_cert entries c = first_of_names (map (unknown_in_line (heads_of entries) entries) c.lines)
 
 -- the tree has at most 2048 nodes with the step, and a place at most 128 kid numbers: one of 128 has no kids
 abbrev pub tree_limit : List ℕ → ℕ → Node → Option EditRefusal
@@ -188,27 +202,3 @@ full_by most weight = if nat_lt most weight then Some (refusal.Full (min weight 
 
 unfoldable pub full : Parts → Option EditRefusal
 full parts = full_by parts.most (parts_weight parts)
-
--- the first test that refuses the edit after the list, if one does; the last one is that of the weight of the project with the edit
-abbrev pub refusal_of : ℕ → List Edit → Edit → Option EditRefusal
-refusal_of most l (edit.Var p) = or_refusal (var_refusal (globals_of l) p) (full (parts_of most (edit.Var p ∷ l)))
-refusal_of most l (edit.Root w) = or_refusal (root_refusal (globals_of l) w) (full (parts_of most (edit.Root w ∷ l)))
-refusal_of most l (edit.Step q s) =
-    or_refusal (unknown (predicate_in_step s))
-    (at_node l q (or_refusal (step_limit q.path.kids s (tree_of (edit.Step q s ∷ l))) (full (parts_of most (edit.Step q s ∷ l)))))
-refusal_of most l (edit.Clear q) = at_node l q (full (parts_of most (edit.Clear q ∷ l)))
-refusal_of most l (edit.Prove q k c) =
-    or_refusal (unknown (predicate_in_cert c)) (at_node l q (at_obligation (has_obligation_of l q.path.kids k) k (cert_limit c)))
-
--- no test refuses the edit after the list
-abbrev pub Accepts : ℕ → List Edit → Edit → Type 0
-Accepts most l e = refusal_of most l e ≡ None
-
--- each edit of the list is accepted after those before it
-abbrev pub IsGood : ℕ → List Edit → Type 0
-IsGood most [] = Unit {0}
-IsGood most (e ∷ l) = IsGood most l × Accepts most l e
-
--- some list of good edits makes the project
-abbrev pub IsProject : Parts → Type 0
-IsProject parts = (most : ℕ) × (l : List Edit) × IsGood most l × Makes most l parts

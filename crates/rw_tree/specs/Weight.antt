@@ -3,6 +3,8 @@ use Rattle.std.specs.Prelude.{ℕ, ◌+◌, List, [], map, length, min, Option, 
 use Rattle.rw_terms.specs.declared.term.Formula.{Formula}
 use Rattle.rw_terms.specs.declared.sequent.Sequent.{Sequent}
 use Rattle.rw_terms.specs.Size.{formula_weight}
+use Rattle.rw_terms.specs.declared.scope.Head.{Head}
+use Rattle.rw_library.specs.Entries.{heads_of}
 use Rattle.rw_programs.specs.declared.prog.Spec.{Spec}
 use Rattle.rw_programs.specs.declared.applied.Child.{Child}
 use Rattle.rw_nodes.specs.declared.parts.Parts.{Parts}
@@ -26,9 +28,10 @@ given_parts None = 0
 given_parts (Some c) = spec_parts c.spec
 
 -- the weight of a node is that of its specification and of its obligations
-abbrev pub site_parts : Site → ℕ
-site_parts x = given_parts x.given + total (map sequent_parts (derived x.given x.step).obligations)
+abbrev pub site_parts : List Head → Site → ℕ
+site_parts heads x = given_parts x.given + total (map sequent_parts (derived heads x.given x.step).obligations)
 
 -- the weight of a project is that of its nodes
 unfoldable pub parts_weight : Parts → ℕ
-parts_weight parts = total (map site_parts (sites parts.main (root_given parts.globals parts.root) []))
+parts_weight parts =
+    let heads = heads_of parts.library.entries in total (map (site_parts heads) (sites heads parts.main (root_given parts.globals parts.root) []))

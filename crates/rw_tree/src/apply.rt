@@ -1,22 +1,35 @@
 //! What an edit does to a project.
 
-ghost use Rattle.std.specs.Prelude.{◌≡◌, ◌⊎◌, ◌++◌, ℕ, List, [], ◌∷◌, OnOk, OnErr, IfErr, IsSome, IsTrue, Some, None};
+ghost use Rattle.std.specs.Prelude.{◌≡◌, ◌⊎◌, ◌++◌, ℕ, List, [], ◌∷◌, length, OnOk, OnErr, IfOk, IfErr, IsSome, Some, None, true, false};
 ghost use Rattle.rw_nodes.specs.declared.edit.Edit.{Edit};
 ghost use Rattle.rw_nodes.specs.declared.edit.Edit.TheVariants as edit;
 ghost use Rattle.rw_nodes.specs.Nodes.{look, has_obligation};
-ghost use Rattle.rw_nodes.specs.Parts.{Makes, applied_to, set_step, set_cert};
-ghost use Rattle.rw_tree.specs.Refusals.{refusal_of, full, IsGood, IsProject};
-ghost use Rattle.rw_tree.specs.Mirror.{early_refusal, late_refusal};
+ghost use Rattle.rw_goals.specs.declared.library.Item.{Item};
+ghost use Rattle.rw_goals.specs.declared.library.Item.TheVariants as item;
+ghost use Rattle.rw_nodes.specs.declared.parts.Parts.{Parts};
+ghost use Rattle.rw_library.specs.Entries.{entry_name, has_entry};
+ghost use Rattle.rw_nodes.specs.Edits.{is_param, without_param};
+ghost use Rattle.rw_nodes.specs.Parts.{Makes, applied_to, set_step, with_entry, with_proof, less_entry};
+ghost use Rattle.rw_tree.specs.Refusals.{or_refusal, full};
+ghost use Rattle.rw_tree.specs.Accepting.{refusal_of, IsGood, IsProject};
+ghost use Rattle.rw_tree.specs.Entering.{order_refusal, sorts_refusal};
+ghost use Rattle.rw_tree.specs.Mirror.{AreSound, early_refusal, late_refusal};
 
 use crate::early::early_refusal;
+use crate::entering::{order_refusal, sorts_refusal};
+use crate::globals::param_place;
 use crate::refusal::EditRefusal;
 use crate::weight::within_weight;
+use rw_goals::library::{Definition, Item, Lemma};
+use rw_items::Items;
+use rw_library::entries::{entry_name, has_entry, place_of};
 use rw_nodes::edit::{Edit, Step};
 use rw_nodes::node::Node;
 use rw_nodes::parts::Parts;
 use rw_programs::prog::{Param, Spec};
 use rw_sequents::line::Cert;
-use std::alloc::Global;
+use rw_terms::name::Name;
+use std::alloc::{AllocError, Global};
 use std::mem;
 
 /// Applies an edit in place, or refuses it by the first test that holds and changes nothing.
@@ -35,8 +48,11 @@ pub fn apply_edit(alloc: Global, parts: &mut Parts, edit: &Edit) -> Result<(), E
 }
 
 // Applies an edit that no earlier test refuses, or refuses it by the weight of the project with it.
+#[tactic(auto, using(crate::proofs::Bounded::proved_entry))]
 fn apply_within(alloc: Global, parts: &mut Parts, edit: &Edit) -> Result<(), EditRefusal>
-    requires { early_refusal parts.old edit.now ≡ None }
+    requires early { early_refusal parts.old edit.now ≡ None }
+    requires sound { AreSound parts.old.main }
+    requires lengths { length parts.old.proofs ≡ length parts.old.library.entries }
     ensures ok { OnOk result ((late_refusal parts.old edit.now ≡ None) × (parts.new ≡ applied_to parts.old edit.now)) }
     ensures err { IfErr result (λ e. (parts.new ≡ parts.old) × ((e ≡ EditRefusal.Memory) ⊎ (late_refusal parts.old edit.now ≡ Some e))) }
 {
@@ -55,7 +71,201 @@ fn apply_within(alloc: Global, parts: &mut Parts, edit: &Edit) -> Result<(), Edi
                 .put_cert(place.path.kids.as_slice(), *number, cert);
             Ok(())
         }
+        Edit::ProveLemma(name, cert) => {
+            let cert = cert.copy(alloc)?;
+            set_proof(parts, name, cert);
+            Ok(())
+        }
+        Edit::Define(definition) => define(alloc, parts, definition),
+        Edit::Lemma(lemma) => {
+            let lemma = lemma.copy(alloc)?;
+            set_lemma(parts, lemma)?;
+            Ok(())
+        }
+        Edit::Drop(name) => {
+            drop_name(parts, name);
+            Ok(())
+        }
     }
+}
+
+// The later tests of a definition, behind that of the weight: the order, and what uses it.
+fn later_refusal(
+    alloc: Global,
+    parts: &Parts,
+    definition: &Definition,
+) -> Result<Option<EditRefusal>, AllocError>
+    requires { AreSound parts.now.main }
+    ensures { IfOk result (λ refusal. refusal ≡ or_refusal (order_refusal parts.now.library.entries definition.now) (sorts_refusal parts.now definition.now)) }
+{
+    match order_refusal(alloc, parts.library.entries.as_slice(), definition)? {
+        Some(refusal) => Ok(Some(refusal)),
+        None => sorts_refusal(alloc, parts, definition),
+    }
+}
+
+fn define(alloc: Global, parts: &mut Parts, definition: &Definition) -> Result<(), EditRefusal>
+    requires sound { AreSound parts.old.main }
+    requires lengths { length parts.old.proofs ≡ length parts.old.library.entries }
+    ensures ok { OnOk result ((late_refusal parts.old (edit.Define definition.now) ≡ None) × (parts.new ≡ applied_to parts.old (edit.Define definition.now))) }
+    ensures err { IfErr result (λ e. (parts.new ≡ parts.old) × ((e ≡ EditRefusal.Memory) ⊎ (late_refusal parts.old (edit.Define definition.now) ≡ Some e))) }
+{
+    let refusal = later_refusal(alloc, parts, definition)?;
+    let entry = Item::Definition(definition.copy(alloc)?);
+    if has_entry(&definition.name, parts.library.entries.as_slice()) {
+        set_again(alloc, parts, entry, refusal)
+    } else {
+        set_new(alloc, parts, entry, refusal)
+    }
+}
+
+// Sets an entry again, unless the project weighs too much with it or is refused for another reason.
+#[tactic(auto, using(rw_library::proofs::Places::place_found, rw_library::proofs::Places::set_back, crate::proofs::TableLemmas::set_within, crate::proofs::TableLemmas::set_there))]
+fn set_again(
+    alloc: Global,
+    parts: &mut Parts,
+    entry: Item,
+    refusal: Option<EditRefusal>,
+) -> Result<(), EditRefusal>
+    requires { has_entry (entry_name entry) parts.old.library.entries ≡ true }
+    ensures ok { OnOk result ((or_refusal (full (with_entry parts.old entry)) refusal ≡ None) × (parts.new ≡ with_entry parts.old entry)) }
+    ensures err { IfErr result (λ e. (parts.new ≡ parts.old) × ((e ≡ EditRefusal.Memory) ⊎ (or_refusal (full (with_entry parts.old entry)) refusal ≡ Some e))) }
+{
+    let name = entry_name(&entry);
+    let place = place_of(parts.library.entries.as_slice(), &name);
+    let old = parts.library.entries.replace(place, entry);
+    match settled(alloc, parts, refusal) {
+        Ok(()) => Ok(()),
+        Err(refusal) => {
+            parts.library.entries.set(place, old);
+            Err(refusal)
+        }
+    }
+}
+
+// Adds an entry, unless the project weighs too much with it or is refused for another reason.
+fn set_new(
+    alloc: Global,
+    parts: &mut Parts,
+    entry: Item,
+    refusal: Option<EditRefusal>,
+) -> Result<(), EditRefusal>
+    requires { has_entry (entry_name entry) parts.old.library.entries ≡ false }
+    ensures ok { OnOk result ((or_refusal (full (with_entry parts.old entry)) refusal ≡ None) × (parts.new ≡ with_entry parts.old entry)) }
+    ensures err { IfErr result (λ e. (parts.new ≡ parts.old) × ((e ≡ EditRefusal.Memory) ⊎ (or_refusal (full (with_entry parts.old entry)) refusal ≡ Some e))) }
+{
+    add_entry(parts, entry)?;
+    match settled(alloc, parts, refusal) {
+        Ok(()) => Ok(()),
+        Err(refusal) => {
+            remove_last_entry(parts);
+            Err(refusal)
+        }
+    }
+}
+
+// Takes the entry away that was added last.
+fn remove_last_entry(parts: &mut Parts)
+    ensures { (before : Parts) (e : Item) → has_entry (entry_name e) before.library.entries ≡ false → parts.old ≡ with_entry before e → parts.new ≡ before }
+{
+    remove_last(&mut parts.proofs);
+    remove_last(&mut parts.library.entries);
+}
+
+fn remove_last<T: Drop>(items: &mut Items<T>)
+    ensures { (rest : List T) (last : T) → items.old ≡ rest ++ last ∷ [] → items.new ≡ rest }
+{
+    items.pop();
+}
+
+// The refusal by the weight, or else the other one.
+fn settled(alloc: Global, parts: &Parts, refusal: Option<EditRefusal>) -> Result<(), EditRefusal>
+    ensures ok { OnOk result (or_refusal (full parts.now) refusal ≡ None) }
+    ensures err { IfErr result (λ e. (e ≡ EditRefusal.Memory) ⊎ (or_refusal (full parts.now) refusal ≡ Some e)) }
+{
+    match within_weight(alloc, parts) {
+        Ok(()) => match refusal {
+            Some(refusal) => Err(refusal),
+            None => Ok(()),
+        },
+        Err(refusal) => Err(refusal),
+    }
+}
+
+#[tactic(auto, using(crate::proofs::TableLemmas::place_in, crate::proofs::TableLemmas::set_there))]
+fn set_lemma(parts: &mut Parts, lemma: Lemma) -> Result<(), AllocError>
+    ensures ok { OnOk result (parts.new ≡ with_entry parts.old (item.Lemma lemma)) }
+    ensures err { OnErr result (parts.new ≡ parts.old) }
+{
+    let name = lemma.name.copy();
+    let entry = Item::Lemma(lemma);
+    if has_entry(&name, parts.library.entries.as_slice()) {
+        let place = place_of(parts.library.entries.as_slice(), &name);
+        parts.library.entries.set(place, entry);
+        Ok(())
+    } else {
+        add_entry(parts, entry)
+    }
+}
+
+// Adds an entry without a certificate.
+#[tactic(auto, using(crate::proofs::TableLemmas::set_last))]
+fn add_entry(parts: &mut Parts, entry: Item) -> Result<(), AllocError>
+    requires { has_entry (entry_name entry) parts.old.library.entries ≡ false }
+    ensures ok { OnOk result (parts.new ≡ with_entry parts.old entry) }
+    ensures err { OnErr result (parts.new ≡ parts.old) }
+{
+    parts.library.entries.push(entry)?;
+    match parts.proofs.push(None) {
+        Ok(()) => Ok(()),
+        Err(error) => {
+            let _ = parts.library.entries.pop();
+            Err(error)
+        }
+    }
+}
+
+#[tactic(auto, using(crate::proofs::TableLemmas::place_in))]
+fn set_proof(parts: &mut Parts, name: &Name, cert: Cert)
+    requires there { has_entry name.now parts.old.library.entries ≡ true }
+    requires lengths { length parts.old.proofs ≡ length parts.old.library.entries }
+    ensures { parts.new ≡ with_proof parts.old name.now cert }
+{
+    let place = place_of(parts.library.entries.as_slice(), name);
+    parts.proofs.set(place, Some(cert));
+}
+
+// Drops an entry, or else a global.
+fn drop_name(parts: &mut Parts, name: &Name)
+    requires lengths { length parts.old.proofs ≡ length parts.old.library.entries }
+    requires there { has_entry name.now parts.old.library.entries ≡ false → is_param parts.old.globals name.now ≡ true }
+    ensures { parts.new ≡ applied_to parts.old (edit.Drop name.now) }
+{
+    if has_entry(name, parts.library.entries.as_slice()) {
+        drop_entry(parts, name);
+    } else {
+        drop_global(&mut parts.globals, name);
+    }
+}
+
+#[tactic(auto, using(crate::proofs::TableLemmas::place_in, crate::proofs::TableLemmas::taken_away))]
+fn drop_entry(parts: &mut Parts, name: &Name)
+    requires lengths { length parts.old.proofs ≡ length parts.old.library.entries }
+    requires there { has_entry name.now parts.old.library.entries ≡ true }
+    ensures { parts.new ≡ less_entry parts.old name.now }
+{
+    let place = place_of(parts.library.entries.as_slice(), name);
+    parts.library.entries.remove(place);
+    parts.proofs.remove(place);
+}
+
+#[tactic(auto, using(crate::proofs::TableLemmas::param_found, crate::proofs::TableLemmas::param_removed))]
+fn drop_global(globals: &mut Items<Param>, name: &Name)
+    requires { is_param globals.old name.now ≡ true }
+    ensures { globals.new ≡ without_param globals.old name.now }
+{
+    let place = param_place(globals.as_slice(), name);
+    globals.remove(place);
 }
 
 fn add_global(alloc: Global, parts: &mut Parts, param: &Param) -> Result<(), EditRefusal>

@@ -5,7 +5,7 @@ ghost use Rattle.std.specs.List.{list_all};
 ghost use Rattle.rw_faults.specs.Limits.{is_light as is_light_formula, is_shallow as is_shallow_formula};
 ghost use Rattle.rw_tree.specs.Refusals.{is_light_term, is_shallow_term, passes, cert_limit};
 
-use crate::limits::{is_light_term, is_shallow_term};
+use crate::limits::{are_light_terms, are_shallow_terms, is_light_term, is_shallow_term};
 use crate::refusal::{EditRefusal, Which};
 use rw_faults::limits::{is_light, is_shallow};
 use rw_sequents::line::{Cert, CertLine};
@@ -54,6 +54,7 @@ fn is_light_line(line: &CertLine) -> bool
         }
         CertLine::ArrExt(a, b) => is_light_term(a) && is_light_term(b),
         CertLine::DivMod(t, u) => is_light_term(t) && is_light_term(u),
+        CertLine::Lemma(_, ts) => are_light_terms(ts.as_slice()),
         _ => true,
     }
 }
@@ -83,6 +84,7 @@ fn is_shallow_line(line: &CertLine) -> bool
         }
         CertLine::ArrExt(a, b) => is_shallow_term(a) && is_shallow_term(b),
         CertLine::DivMod(t, u) => is_shallow_term(t) && is_shallow_term(u),
+        CertLine::Lemma(_, ts) => are_shallow_terms(ts.as_slice()),
         _ => true,
     }
 }

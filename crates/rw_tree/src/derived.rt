@@ -13,6 +13,7 @@ use rw_nodes::edit::Step;
 use rw_nodes::parts::Parts;
 use rw_programs::applied::{ApplyError, Child, Context, Misfit};
 use rw_programs::prog::{Param, Spec};
+use rw_terms::scope::Head;
 use rw_terms::sequent::Sequent;
 use std::alloc::{AllocError, Global};
 
@@ -33,29 +34,30 @@ pub struct Derived {
     pub obligations: Items<Sequent>,
 }
 
-/// What is derived for a node that is given a specification or none.
+/// What is derived for a node that is given a specification or none, by the heads of predicates.
 #[tactic(auto, unfolding(crate::specs::Derived::derived))]
 pub fn derive(
     alloc: Global,
+    heads: &[Head],
     given: Option<&Child>,
     step: &Option<Step>,
 ) -> Result<Derived, TreeError>
-    ensures { IfOk result (λ d. d ≡ derived (option_copied given.entry) step.now) }
+    ensures { IfOk result (λ d. d ≡ derived heads.now (option_copied given.entry) step.now) }
 {
     match given {
         None => Ok(nothing(alloc, Outcome::NoSpec)),
         Some(child) => match step {
             None => Ok(nothing(alloc, Outcome::Open)),
-            Some(step) => by_law(alloc, child, step),
+            Some(step) => by_law(alloc, heads, child, step),
         },
     }
 }
 
 #[tactic(auto, unfolding(crate::specs::Derived::derived))]
-fn by_law(alloc: Global, child: &Child, step: &Step) -> Result<Derived, TreeError>
-    ensures { IfOk result (λ d. d ≡ derived (Some child.now) (Some step.now)) }
+fn by_law(alloc: Global, heads: &[Head], child: &Child, step: &Step) -> Result<Derived, TreeError>
+    ensures { IfOk result (λ d. d ≡ derived heads.now (Some child.now) (Some step.now)) }
 {
-    match law_premises(alloc, &child.context, &child.spec, step) {
+    match law_premises(alloc, heads, &child.context, &child.spec, step) {
         Ok(premises) => Ok(Derived {
             outcome: Outcome::Fits,
             children: premises.children,
@@ -68,16 +70,17 @@ fn by_law(alloc: Global, child: &Child, step: &Step) -> Result<Derived, TreeErro
 
 fn law_premises(
     alloc: Global,
+    heads: &[Head],
     context: &Context,
     spec: &Spec,
     step: &Step,
 ) -> Result<Premises, ApplyError>
-    ensures ok { IfOk result (Makes (law_at context.now spec.now step.now)) }
-    ensures err { IfErr result (IsRefusal (law_at context.now spec.now step.now)) }
+    ensures ok { IfOk result (Makes (law_at heads.now context.now spec.now step.now)) }
+    ensures err { IfErr result (IsRefusal (law_at heads.now context.now spec.now step.now)) }
 {
     match step {
-        Step::Basic(step) => premises(alloc, context, &[], spec, step),
-        Step::Loop(step) => rw_loops::apply::premises(alloc, context, &[], spec, step),
+        Step::Basic(step) => premises(alloc, context, heads, spec, step),
+        Step::Loop(step) => rw_loops::apply::premises(alloc, context, heads, spec, step),
     }
 }
 

@@ -6,20 +6,23 @@ ghost use Rattle.rw_nodes.specs.declared.node.Node.{out-Node};
 ghost use Rattle.rw_nodes.specs.Edits.{kids_of};
 ghost use Rattle.rw_nodes.specs.Nodes.{look, size, total};
 ghost use Rattle.rw_nodes.specs.Parts.{set_step};
-ghost use Rattle.rw_tree.specs.Refusals.{var_refusal, at_place, tree_limit, step_limit};
-ghost use Rattle.rw_tree.specs.Mirror.{early_refusal};
+ghost use Rattle.rw_tree.specs.Refusals.{at_place, tree_limit, step_limit};
+ghost use Rattle.rw_tree.specs.Mirror.{AreSound, early_refusal};
 
 use crate::certificate::cert_limit;
+use crate::entering::{define_refusal, drop_refusal, lemma_refusal, prove_refusal};
 use crate::globals::is_param;
 use crate::limits::text_limit;
 use crate::refusal::{EditRefusal, Which};
 use crate::root::{MOST_GLOBALS, root_refusal};
-use crate::unknown::{predicate_in_cert, predicate_in_step};
+use crate::unknown::{predicate_in_step, unknown_in_cert};
+use rw_library::entries::{has_entry, heads_of};
 use rw_nodes::edit::{Edit, Place, Step, kids_of};
 use rw_nodes::node::{Node, sizes};
 use rw_nodes::parts::Parts;
 use rw_programs::prog::{Param, Spec};
 use rw_sequents::line::Cert;
+use rw_terms::name::Name;
 use std::alloc::{AllocError, Global};
 
 const MOST_NODES: u32 = 2048;
@@ -32,28 +35,46 @@ pub fn early_refusal(
     parts: &Parts,
     edit: &Edit,
 ) -> Result<Option<EditRefusal>, AllocError>
-    requires { size parts.now.main ≤ 2048 }
+    requires { AreSound parts.now.main }
     ensures { IfOk result (λ refusal. refusal ≡ early_refusal parts.now edit.now) }
 {
     match edit {
-        Edit::Var(param) => Ok(var_refusal(parts.globals.as_slice(), param)),
+        Edit::Var(param) => Ok(refusal_of_var(parts, param)),
         Edit::Root(spec) => refusal_of_root(alloc, parts, spec),
         Edit::Step(place, step) => refusal_of_step(alloc, parts, place, step),
         Edit::Clear(place) => no_node(alloc, &parts.main, place),
         Edit::Prove(place, number, cert) => refusal_of_cert(alloc, parts, place, *number, cert),
+        Edit::ProveLemma(name, cert) => refusal_of_proof(alloc, parts, name, cert),
+        Edit::Define(definition) => {
+            define_refusal(alloc, parts.library.entries.as_slice(), definition)
+        }
+        Edit::Lemma(lemma) => lemma_refusal(alloc, parts.library.entries.as_slice(), lemma),
+        Edit::Drop(name) => drop_refusal(alloc, parts, name),
     }
 }
 
-fn var_refusal(globals: &[Param], param: &Param) -> Option<EditRefusal>
-    ensures { result ≡ var_refusal globals.now param.now }
+fn refusal_of_var(parts: &Parts, param: &Param) -> Option<EditRefusal>
+    ensures { result ≡ early_refusal parts.now (edit.Var param.now) }
 {
-    if is_param(globals, &param.name) {
+    let globals = parts.globals.as_slice();
+    if is_param(globals, &param.name) || has_entry(&param.name, parts.library.entries.as_slice()) {
         return Some(EditRefusal::Duplicate(param.name.copy()));
     }
     if globals.len() >= MOST_GLOBALS as usize {
         return Some(EditRefusal::Limit(Which::Globals, MOST_GLOBALS));
     }
     None
+}
+
+fn refusal_of_proof(
+    alloc: Global,
+    parts: &Parts,
+    name: &Name,
+    cert: &Cert,
+) -> Result<Option<EditRefusal>, AllocError>
+    ensures { IfOk result (λ refusal. refusal ≡ early_refusal parts.now (edit.ProveLemma name.now cert.now)) }
+{
+    prove_refusal(alloc, parts.library.entries.as_slice(), name, cert)
 }
 
 fn refusal_of_root(
@@ -63,7 +84,8 @@ fn refusal_of_root(
 ) -> Result<Option<EditRefusal>, AllocError>
     ensures { IfOk result (λ refusal. refusal ≡ early_refusal parts.now (edit.Root spec.now)) }
 {
-    root_refusal(alloc, parts.globals.as_slice(), spec)
+    let heads = heads_of(alloc, parts.library.entries.as_slice())?;
+    root_refusal(alloc, parts.globals.as_slice(), heads.as_slice(), spec)
 }
 
 fn refusal_of_step(
@@ -75,7 +97,8 @@ fn refusal_of_step(
     requires { size parts.now.main ≤ 2048 }
     ensures { IfOk result (λ refusal. refusal ≡ early_refusal parts.now (edit.Step place.now step.now)) }
 {
-    if let Some(name) = predicate_in_step(step) {
+    let heads = heads_of(alloc, parts.library.entries.as_slice())?;
+    if let Some(name) = predicate_in_step(heads.as_slice(), step) {
         return Ok(Some(EditRefusal::Unknown(name)));
     }
     match no_node(alloc, &parts.main, place)? {
@@ -151,7 +174,7 @@ fn refusal_of_cert(
 ) -> Result<Option<EditRefusal>, AllocError>
     ensures { IfOk result (λ refusal. refusal ≡ early_refusal parts.now (edit.Prove place.now number cert.now)) }
 {
-    if let Some(name) = predicate_in_cert(cert) {
+    if let Some(name) = unknown_in_cert(alloc, parts.library.entries.as_slice(), cert)? {
         return Ok(Some(EditRefusal::Unknown(name)));
     }
     if let Some(refusal) = no_node(alloc, &parts.main, place)? {

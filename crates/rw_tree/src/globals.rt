@@ -2,6 +2,7 @@
 
 ghost use Rattle.std.specs.Prelude.{◌≡◌, map, option_copied, IfOk};
 ghost use Rattle.rw_nodes.specs.Edits.{global, is_param};
+ghost use Rattle.rw_tree.specs.Mirror.{param_place};
 
 use rw_items::Items;
 use rw_programs::prog::Param;
@@ -40,4 +41,16 @@ pub fn is_param(params: &[Param], name: &Name) -> bool
         }
     }
     false
+}
+
+/// The place of the one of this name, counted from 0, or how many there are.
+pub fn param_place(params: &[Param], name: &Name) -> usize
+    ensures { result ≡ param_place params.now name.now }
+{
+    for i in 0..params.len() {
+        if params[i].name.is(name) {
+            return i;
+        }
+    }
+    params.len()
 }

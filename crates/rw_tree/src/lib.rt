@@ -6,6 +6,7 @@ pub mod apply;
 pub mod certificate;
 pub mod derived;
 pub mod early;
+pub mod entering;
 pub mod globals;
 pub mod limits;
 pub mod refusal;
@@ -14,4 +15,6 @@ pub mod status;
 #[cfg(test)]
 mod tests;
 pub mod unknown;
+pub mod users;
+pub mod uses;
 pub mod weight;

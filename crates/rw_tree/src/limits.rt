@@ -99,7 +99,8 @@ fn is_shallow_loop(step: &LoopStep) -> bool
     }
 }
 
-fn are_light(formulas: &[Formula]) -> bool
+/// Whether each formula has at most 1024 parts.
+pub fn are_light(formulas: &[Formula]) -> bool
     ensures { result ≡ list_all is_light_formula formulas.now }
 {
     for formula in formulas {
@@ -110,7 +111,8 @@ fn are_light(formulas: &[Formula]) -> bool
     true
 }
 
-fn are_shallow(formulas: &[Formula]) -> bool
+/// Whether no path of a formula has more than 64 parts.
+pub fn are_shallow(formulas: &[Formula]) -> bool
     ensures { result ≡ list_all is_shallow_formula formulas.now }
 {
     for formula in formulas {
@@ -121,7 +123,8 @@ fn are_shallow(formulas: &[Formula]) -> bool
     true
 }
 
-fn are_light_terms(terms: &[Term]) -> bool
+/// Whether each term has at most 1024 parts.
+pub fn are_light_terms(terms: &[Term]) -> bool
     ensures { result ≡ list_all is_light_term terms.now }
 {
     for term in terms {
@@ -132,7 +135,8 @@ fn are_light_terms(terms: &[Term]) -> bool
     true
 }
 
-fn are_shallow_terms(terms: &[Term]) -> bool
+/// Whether no path of a term has more than 64 parts.
+pub fn are_shallow_terms(terms: &[Term]) -> bool
     ensures { result ≡ list_all is_shallow_term terms.now }
 {
     for term in terms {

@@ -12,7 +12,7 @@ use rw_faults::limits::{is_light, is_shallow, is_small};
 use rw_faults::unknown::unknown_in;
 use rw_programs::prog::{Param, Spec};
 use rw_terms::name::Name;
-use rw_terms::scope::Scope;
+use rw_terms::scope::{Head, Scope};
 use rw_terms::sorts::{MOST_DEPTH, MOST_PARTS};
 use rw_terms::term::Formula;
 use std::alloc::{AllocError, Global};
@@ -20,36 +20,37 @@ use std::alloc::{AllocError, Global};
 /// The most globals, and the most names of a frame.
 pub const MOST_GLOBALS: u32 = 64;
 
-/// The first test that refuses the specification as the root over these globals, if one does.
+/// The first test that refuses the specification as the root over these globals and predicates, if one does.
 pub fn root_refusal(
     alloc: Global,
     globals: &[Param],
+    heads: &[Head],
     spec: &Spec,
 ) -> Result<Option<EditRefusal>, AllocError>
-    ensures { IfOk result (λ refusal. refusal ≡ root_refusal globals.now spec.now) }
+    ensures { IfOk result (λ refusal. refusal ≡ root_refusal globals.now heads.now spec.now) }
 {
     let scope = scope_of(alloc, globals)?;
-    if let Some(name) = root_unknown(globals, &scope, spec) {
+    if let Some(name) = root_unknown(globals, &scope, heads, spec) {
         return Ok(Some(EditRefusal::Unknown(name)));
     }
-    if let Some(part) = ill_formed_part(alloc, &scope, spec)? {
+    if let Some(part) = ill_formed_part(alloc, &scope, heads, spec)? {
         return Ok(Some(EditRefusal::Sort(part)));
     }
     Ok(past_limit(spec))
 }
 
-// The first name that is no global: of the frame, the precondition, the postcondition.
-fn root_unknown(globals: &[Param], scope: &Scope, spec: &Spec) -> Option<Name>
+// The first name that is no global, or predicate that is not defined: of the frame, the precondition, the postcondition.
+fn root_unknown(globals: &[Param], scope: &Scope, heads: &[Head], spec: &Spec) -> Option<Name>
     requires { scope.now ≡ map global globals.now }
-    ensures { result ≡ root_unknown globals.now spec.now }
+    ensures { result ≡ root_unknown globals.now heads.now spec.now }
 {
     if let Some(name) = frame_unknown(globals, spec.frame.as_slice()) {
         return Some(name);
     }
-    if let Some(name) = unknown_in(scope, &[], &spec.pre) {
+    if let Some(name) = unknown_in(scope, heads, &spec.pre) {
         return Some(name);
     }
-    unknown_in(scope, &[], &spec.post)
+    unknown_in(scope, heads, &spec.post)
 }
 
 fn frame_unknown(globals: &[Param], frame: &[Name]) -> Option<Name>
@@ -64,29 +65,35 @@ fn frame_unknown(globals: &[Param], frame: &[Name]) -> Option<Name>
 }
 
 // The first part that is ill-formed: the frame is part 0, the precondition part 1, the postcondition part 2.
-fn ill_formed_part(alloc: Global, scope: &Scope, spec: &Spec) -> Result<Option<u32>, AllocError>
-    ensures { IfOk result (λ part. part ≡ ill_formed_part scope.now spec.now) }
+fn ill_formed_part(
+    alloc: Global,
+    scope: &Scope,
+    heads: &[Head],
+    spec: &Spec,
+) -> Result<Option<u32>, AllocError>
+    ensures { IfOk result (λ part. part ≡ ill_formed_part scope.now heads.now spec.now) }
 {
     if is_twice(spec.frame.as_slice()) {
         return Ok(Some(0));
     }
-    if is_ill_formed(alloc, scope, &[], &spec.pre)? {
+    if is_ill_formed(alloc, scope, heads, &[], &spec.pre)? {
         return Ok(Some(1));
     }
-    if is_ill_formed(alloc, scope, spec.frame.as_slice(), &spec.post)? {
+    if is_ill_formed(alloc, scope, heads, spec.frame.as_slice(), &spec.post)? {
         return Ok(Some(2));
     }
     Ok(None)
 }
 
-// Whether a formula within the limits is ill-sorted, or has an initial variable of a name that is not among these.
-fn is_ill_formed(
+/// Whether a formula within the limits is ill-sorted, or has an initial variable of a name that is not among these.
+pub fn is_ill_formed(
     alloc: Global,
     scope: &Scope,
+    heads: &[Head],
     initials: &[Name],
     formula: &Formula,
 ) -> Result<bool, AllocError>
-    ensures { IfOk result (λ b. b ≡ is_ill_formed scope.now initials.now formula.now) }
+    ensures { IfOk result (λ b. b ≡ is_ill_formed scope.now heads.now initials.now formula.now) }
 {
     if !is_small(formula) {
         return Ok(false);
@@ -94,7 +101,7 @@ fn is_ill_formed(
     if initial_outside(initials, formula) {
         return Ok(true);
     }
-    is_ill_sorted(alloc, scope, &[], &[], formula)
+    is_ill_sorted(alloc, scope, heads, &[], formula)
 }
 
 // The first limit that the specification passes.

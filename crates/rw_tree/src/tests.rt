@@ -1,7 +1,7 @@
 //! Edits of a small project, worked out by hand.
 
 ghost use Rattle.std.specs.Prelude.{◌≡◌};
-ghost use Rattle.rw_tree.specs.Refusals.{IsProject};
+ghost use Rattle.rw_tree.specs.Accepting.{IsProject};
 
 use crate::apply::apply_edit;
 use crate::refusal::EditRefusal;

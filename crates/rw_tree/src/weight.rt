@@ -9,11 +9,13 @@ ghost use Rattle.rw_tree.specs.Refusals.{full};
 use crate::derived::{derive, root_given};
 use crate::refusal::{EditRefusal, TreeError};
 use rw_items::at;
+use rw_library::entries::heads_of;
 use rw_nodes::node::Node;
 use rw_nodes::parts::Parts;
 use rw_programs::applied::Child;
 use rw_programs::prog::Spec;
 use rw_terms::measure::weight;
+use rw_terms::scope::Head;
 use rw_terms::sequent::Sequent;
 use rw_terms::term::Formula;
 use std::alloc::Global;
@@ -39,30 +41,42 @@ pub fn within_weight(alloc: Global, parts: &Parts) -> Result<(), EditRefusal>
 fn parts_weight(alloc: Global, parts: &Parts) -> Result<u64, TreeError>
     ensures { IfOk result (λ w. w ≡ min (parts_weight parts.now) u64.MAX) }
 {
+    let heads = heads_of(alloc, parts.library.entries.as_slice())?;
     let given = root_given(alloc, parts)?;
-    let weight = node_weight(alloc, &parts.main, given.as_ref())?;
+    let weight = node_weight(alloc, heads.as_slice(), &parts.main, given.as_ref())?;
     Ok(weight)
 }
 
 // The weight of a node and of all below, by what it is given.
 #[cycle(weights)]
-fn node_weight(alloc: Global, node: &Node, given: Option<&Child>) -> Result<u64, TreeError>
-    ensures { IfOk result (λ w. (path : List ℕ) → w ≡ min (total (map site_parts (sites node.now (option_copied given.entry) path))) u64.MAX) }
+fn node_weight(
+    alloc: Global,
+    heads: &[Head],
+    node: &Node,
+    given: Option<&Child>,
+) -> Result<u64, TreeError>
+    ensures { IfOk result (λ w. (path : List ℕ) → w ≡ min (total (map (site_parts heads.now) (sites heads.now node.now (option_copied given.entry) path))) u64.MAX) }
 {
-    let derived = derive(alloc, given, &node.step)?;
+    let derived = derive(alloc, heads, given, &node.step)?;
     let own = given_weight(given);
     let owed = sequents_weight(derived.obligations.as_slice());
-    let below = kids_weight(alloc, node.kids.as_slice(), derived.children.as_slice())?;
+    let children = derived.children.as_slice();
+    let below = kids_weight(alloc, heads, node.kids.as_slice(), children)?;
     Ok(own.saturating_add(owed).saturating_add(below))
 }
 
 #[cycle(weights)]
-fn kids_weight(alloc: Global, kids: &[Node], children: &[Child]) -> Result<u64, TreeError>
-    ensures { IfOk result (λ w. (path : List ℕ) → w ≡ min (total (map site_parts (kid_sites (map sites kids.now) children.now 0 path))) u64.MAX) }
+fn kids_weight(
+    alloc: Global,
+    heads: &[Head],
+    kids: &[Node],
+    children: &[Child],
+) -> Result<u64, TreeError>
+    ensures { IfOk result (λ w. (path : List ℕ) → w ≡ min (total (map (site_parts heads.now) (kid_sites (map (sites heads.now) kids.now) children.now 0 path))) u64.MAX) }
 {
     let mut sum: u64 = 0;
     for i in 0..kids.len() {
-        let weight = node_weight(alloc, &kids[i], at(children, i))?;
+        let weight = node_weight(alloc, heads, &kids[i], at(children, i))?;
         sum = sum.saturating_add(weight);
     }
     Ok(sum)

@@ -7,7 +7,7 @@ use Rattle.rw_tree.proofs.anew.+marks.Given as goal
 -- the marks so far and those of the kids that are left
 abbrev pub invariant-mark_kids-loop-i : goal.invariant-mark_kids-loop-i
 invariant-mark_kids-loop-i g l = record {
-  rest : l.marks ++ map mark_of (kid_sites (map sites (drop l.i l.kids)) l.children l.i l.fn.path) ≡ l.fn.marks ++ map mark_of (kid_sites (map sites l.kids) l.children 0 l.fn.path);
+  rest : l.marks ++ map (mark_of l.library) (kid_sites (map (sites l.heads) (drop l.i l.kids)) l.children l.i l.fn.path) ≡ l.fn.marks ++ map (mark_of l.library) (kid_sites (map (sites l.heads) l.kids) l.children 0 l.fn.path);
   same : l.path ≡ l.fn.path;
 }
 

@@ -1,21 +1,26 @@
 use Rattle.std.proofs.Common.{◌≡◌, sym, ap, ◌∙◌, subst, inl, inr, None, ◌∷◌}
 use Rattle.rw_nodes.specs.Parts.{Makes, applied_to}
-use Rattle.rw_tree.specs.Refusals.{IsProject}
+use Rattle.rw_tree.specs.Accepting.{IsProject}
 use Rattle.rw_tree.specs.Mirror.{early_refusal, late_refusal}
 use Rattle.rw_tree.proofs.Clauses.{on_ok, if_err, on_err, late_told, early_told}
 use Rattle.rw_tree.proofs.Same.{both_none, refusal_same, made_applied, is_project}
-use Rattle.rw_tree.proofs.Sound.{few_made}
+use Rattle.rw_tree.proofs.Sound.{sound_made}
+use Rattle.rw_tree.proofs.Bounded.{bounded_made}
 use Rattle.rw_tree.proofs.apply.apply_edit.Goals as goal
 
 pub early_refusal-requires : goal.early_refusal-requires
-early_refusal-requires c = few_made c.requires.0 c.requires.1 c.args.parts.now c.requires.2 c.requires.3
+early_refusal-requires c = sound_made c.requires.0 c.requires.1 c.args.parts.now c.requires.2 c.requires.3
 
 pub returns-in-Some-clause-refused : goal.returns-in-Some-clause-refused
 returns-in-Some-clause-refused c = λ most l good made. inr (sym (refusal_same most l c.args.parts.now good made c.args.edit.now)
     ∙ early_told _ _ _ (sym c.in_ok-refusal.ensures ∙ c.in-Some.is))
 
 pub apply_within-requires : goal.apply_within-requires
-apply_within-requires c = sym c.in_ok-refusal.ensures ∙ c.in_default.is
+apply_within-requires c = record {
+  early = sym c.in_ok-refusal.ensures ∙ c.in_default.is;
+  sound = sound_made c.requires.0 c.requires.1 c.args.parts.now c.requires.2 c.requires.3;
+  lengths = (bounded_made c.requires.0 c.requires.1 c.args.parts.now c.requires.2 c.requires.3).proofs;
+}
 
 pub returns-clause-made : goal.returns-clause-made
 returns-clause-made c =

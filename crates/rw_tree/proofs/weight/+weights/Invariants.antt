@@ -7,5 +7,5 @@ use Rattle.rw_tree.proofs.weight.+weights.Given as goal
 abbrev pub invariant-kids_weight-loop-i : goal.invariant-kids_weight-loop-i
 invariant-kids_weight-loop-i l = record {
   fits : l.sum ≤ 18446744073709551615;
-  is : (path : List ℕ) → min (l.sum + weigh (kid_sites (map sites (drop l.i l.kids)) l.children l.i path)) 18446744073709551615 ≡ min (weigh (kid_sites (map sites l.kids) l.children 0 path)) 18446744073709551615;
+  is : (path : List ℕ) → min (l.sum + weigh l.heads (kid_sites (map (sites l.heads) (drop l.i l.kids)) l.children l.i path)) 18446744073709551615 ≡ min (weigh l.heads (kid_sites (map (sites l.heads) l.kids) l.children 0 path)) 18446744073709551615;
 }
