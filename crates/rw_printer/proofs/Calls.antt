@@ -57,3 +57,16 @@ more_written separator before whole old xs i x one two h e a b inv =
 
     grouped : (o a b c : List ℕ) → o ++ a ++ b ++ c ≡ o ++ (a ++ b ++ c)
     grouped o a b c = simp append_assoc
+
+-- what is written of a list of values, one more
+pub value_written :
+    {A : Type 0} (separator before whole old : List ℕ) (f : A → List ℕ) (xs : List A) (i : ℕ) (d : A) (one two : List ℕ) → i < length xs → one ≡ old ++ before → two ≡ one ++ f (get_or xs i d) → old ++ listed separator before (map f (drop i xs)) ≡ whole
+    → two ++ listed separator separator (map f (drop (i + 1) xs)) ≡ whole
+value_written separator before whole old f xs i d one two h a b inv =
+    ap (λ y. y ++ l) (b ∙ ap (λ y. y ++ f (get_or xs i d)) a) ∙ grouped old before (f (get_or xs i d)) l ∙ ap (λ y. old ++ y) (sym (ap (λ y. listed separator before (map f y)) (drop_more xs i d h))) ∙ inv
+  where
+    l : List ℕ
+    l = listed separator separator (map f (drop (i + 1) xs))
+
+    grouped : (o a b c : List ℕ) → o ++ a ++ b ++ c ≡ o ++ (a ++ b ++ c)
+    grouped o a b c = simp append_assoc

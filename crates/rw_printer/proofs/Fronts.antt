@@ -89,10 +89,11 @@ name_parts (b ∷ bs) e =
     let q = split (is_letter b) (list_all goes_on bs) (split (is_word (b ∷ bs)) (leb (length (b ∷ bs)) 32) (split (is_word (b ∷ bs) && leb (length (b ∷ bs)) 32) _ (split (is_word (b ∷ bs) && leb (length (b ∷ bs)) 32 && not (ends_with_0 (b ∷ bs))) _ e).0).0).0 in
     record { first = b; rest = bs; is = refl; letter = q.0; on = q.1 }
 
+pub name_token : (w r : List ℕ) → is_name w ≡ true → stops r ≡ true → token_at (w ++ r) ≡ Some (text w, skip r)
+name_token w r n e = let p = name_parts w n in subst (λ x. token_at (x ++ r) ≡ Some (text x, skip r)) (sym p.is) (word_front p.first p.rest r p.letter p.on e)
+
 pub word_leads : (w r : List ℕ) → is_name w ≡ true → stops r ≡ true → Leads (w ++ r) (classes.Word w ∷ []) (skip r)
-word_leads w r n e =
-    let p = name_parts w n in
-    one (w ++ r) (text w) (classes.Word w) (skip r) (subst (λ x. token_at (x ++ r) ≡ Some (text x, skip r)) (sym p.is) (word_front p.first p.rest r p.letter p.on e)) (word_class w n)
+word_leads w r n e = one (w ++ r) (text w) (classes.Word w) (skip r) (name_token w r n e) (word_class w n)
 
 on_more : (bs : List ℕ) → list_all goes_on bs ≡ true → list_all goes_on (bs ++ 48 ∷ []) ≡ true
 on_more [] h = refl
@@ -126,15 +127,17 @@ number_front c cs h =
     ap (λ x. cond x (word_of (c ∷ cs)) (cond (is_digit c) (digits_of (c ∷ cs)) (cond (eqb c 95) (binder_of cs) (symbol_of (c ∷ cs))))) l
     ∙ ap (λ x. cond x (digits_of (c ∷ cs)) (cond (eqb c 95) (binder_of cs) (symbol_of (c ∷ cs)))) h
 
-pub number_leads : (n : ℕ) (r : List ℕ) → leb n 170141183460469231731687303715884105727 ≡ true → stops r ≡ true → Leads (decimal n ++ r) (classes.Number n ∷ []) (skip r)
-unfolding token_at class_of
-number_leads n r h e =
+pub number_token : (n : ℕ) (r : List ℕ) → leb n 170141183460469231731687303715884105727 ≡ true → stops r ≡ true → token_at (decimal n ++ r) ≡ Some (number n, skip r)
+unfolding token_at
+number_token n r h e =
     let s = decimal_digits n (small n h) in
     let d : is_digit s.first ≡ true = (split (is_digit s.first) (list_all is_digit s.rest) (subst (λ x. list_all is_digit x ≡ true) s.is s.digits)).0 in
     let f : front_token (decimal n ++ r) ≡ digits_of (decimal n ++ r) = subst (λ x. front_token (x ++ r) ≡ digits_of (x ++ r)) (sym s.is) (number_front s.first (s.rest ++ r) d) in
-    one (decimal n ++ r) (number n) (classes.Number n) (skip r)
-    (ap (option_map (with_next (decimal n ++ r))) (f ∙ ap (option_map (λ v. (number v, prefix_len is_digit (decimal n ++ r)))) (digits_are n r h e)) ∙ ap (λ x. Some (number n, skip x)) (digits_behind n r h e))
-    refl
+    ap (option_map (with_next (decimal n ++ r))) (f ∙ ap (option_map (λ v. (number v, prefix_len is_digit (decimal n ++ r)))) (digits_are n r h e)) ∙ ap (λ x. Some (number n, skip x)) (digits_behind n r h e)
+
+pub number_leads : (n : ℕ) (r : List ℕ) → leb n 170141183460469231731687303715884105727 ≡ true → stops r ≡ true → Leads (decimal n ++ r) (classes.Number n ∷ []) (skip r)
+unfolding class_of
+number_leads n r h e = one (decimal n ++ r) (number n) (classes.Number n) (skip r) (number_token n r h e) refl
 
 pub place_leads : (n : ℕ) (r : List ℕ) → 1 ≤ n → leb n 170141183460469231731687303715884105727 ≡ true → stops r ≡ true → Leads ((codes "_" ++ decimal n) ++ r) (classes.Place n ∷ []) (skip r)
 unfolding token_at front_token class_of
@@ -149,15 +152,15 @@ place_leads n r low h e =
 
 -- symbols
 
-shut_bracket : (c : ℕ) → nat_eq c 124 ≡ false → is_among doubles (93 ∷ c ∷ []) ≡ false
+pub shut_bracket : (c : ℕ) → nat_eq c 124 ≡ false → is_among doubles (93 ∷ c ∷ []) ≡ false
 unfolding doubles
 shut_bracket c e = ap (λ z. (z && true) || false) e
 
-open_bracket : (c : ℕ) → nat_eq c 93 ≡ false → is_among doubles (91 ∷ c ∷ []) ≡ false
+pub open_bracket : (c : ℕ) → nat_eq c 93 ≡ false → is_among doubles (91 ∷ c ∷ []) ≡ false
 unfolding doubles
 open_bracket c e = ap (λ z. (z && true) || false) e
 
-minus_sign : (c : ℕ) → nat_eq c 62 ≡ false → is_among doubles (45 ∷ c ∷ []) ≡ false
+pub minus_sign : (c : ℕ) → nat_eq c 62 ≡ false → is_among doubles (45 ∷ c ∷ []) ≡ false
 unfolding doubles
 minus_sign c e = ap (λ z. (z && true) || false) e
 

@@ -16,7 +16,7 @@ nothing here = record { tokens = []; leads = refl; classes = refl }
 pub one : (here : List ℕ) (t : Token) (c : Class) (there : List ℕ) → token_at here ≡ Some (t, there) → class_of t ≡ Some c → Leads here (c ∷ []) there
 one here t c there e k = record { tokens = t ∷ []; leads = (there, e, refl); classes = (c, [], refl, k, refl) }
 
-leads_join : (a : List ℕ) (ts : List Token) (b : List ℕ) (us : List Token) (c : List ℕ) → LeadsTo a ts b → LeadsTo b us c → LeadsTo a (ts ++ us) c
+pub leads_join : (a : List ℕ) (ts : List Token) (b : List ℕ) (us : List Token) (c : List ℕ) → LeadsTo a ts b → LeadsTo b us c → LeadsTo a (ts ++ us) c
 leads_join a [] b us c l m = subst (λ x. LeadsTo x us c) (sym l) m
 leads_join a (t ∷ ts) b us c l m = (l.0, l.1, leads_join l.0 ts b us c l.2 m)
 

@@ -36,7 +36,7 @@ pub record Starts (bs : List ℕ) : Type 0 where
   pub is : bs ≡ first ∷ rest
   pub ok : begins first ≡ true
 
-starts_with : (xs ys : List ℕ) → Starts xs → Starts (xs ++ ys)
+pub starts_with : (xs ys : List ℕ) → Starts xs → Starts (xs ++ ys)
 starts_with xs ys s = record { first = s.first; rest = s.rest ++ ys; is = ap (λ x. x ++ ys) s.is; ok = s.ok }
 
 pub skip_start : (bs : List ℕ) → Starts bs → skip bs ≡ bs
@@ -54,15 +54,15 @@ and_first : (a b : Bool) → (a && b) ≡ true → a ≡ true
 and_first true b e = refl
 and_first false b e = e
 
-number_starts : (n : ℕ) → leb n 170141183460469231731687303715884105727 ≡ true → Starts (decimal n)
+pub number_starts : (n : ℕ) → leb n 170141183460469231731687303715884105727 ≡ true → Starts (decimal n)
 number_starts n h =
     let s = decimal_digits n (small n h) in
     record { first = s.first; rest = s.rest; is = s.is; ok = digit_begins s.first (and_first (is_digit s.first) (list_all is_digit s.rest) (subst (λ x. list_all is_digit x ≡ true) s.is s.digits)) }
 
-name_starts : (w : List ℕ) → is_name w ≡ true → Starts w
+pub name_starts : (w : List ℕ) → is_name w ≡ true → Starts w
 name_starts w n = let p = name_parts w n in record { first = p.first; rest = p.rest; is = p.is; ok = letter_begins p.first p.letter }
 
-byte_starts : (b : ℕ) (bs : List ℕ) → begins b ≡ true → Starts (b ∷ bs)
+pub byte_starts : (b : ℕ) (bs : List ℕ) → begins b ≡ true → Starts (b ∷ bs)
 byte_starts b bs e = record { first = b; rest = bs; is = refl; ok = e }
 
 leaf_starts : (l : Leaf) (d : ℕ) → PlainLeaf d l → Starts (leaf_text l)
@@ -94,13 +94,13 @@ starts (group t) d p = starts_with (codes "(" ++ laid t) (codes ")") (starts_wit
 starts (index t u) d p = starts_with _ _ (starts_with _ _ (starts_with _ _ (starts t d p.0)))
 starts (call h ts t) d p = starts_with _ _ (starts_with _ _ (starts_with _ _ (starts_with _ _ (head_starts h p.0))))
 
-grouped_3 : (a b c y : List ℕ) → a ++ b ++ c ++ y ≡ a ++ (b ++ (c ++ y))
+pub grouped_3 : (a b c y : List ℕ) → a ++ b ++ c ++ y ≡ a ++ (b ++ (c ++ y))
 grouped_3 a b c y = simp append_assoc
 
-grouped_4 : (a b c e y : List ℕ) → a ++ b ++ c ++ e ++ y ≡ a ++ (b ++ (c ++ (e ++ y)))
+pub grouped_4 : (a b c e y : List ℕ) → a ++ b ++ c ++ e ++ y ≡ a ++ (b ++ (c ++ (e ++ y)))
 grouped_4 a b c e y = simp append_assoc
 
-grouped_5 : (a b c e f y : List ℕ) → a ++ b ++ c ++ e ++ f ++ y ≡ a ++ (b ++ (c ++ (e ++ (f ++ y))))
+pub grouped_5 : (a b c e f y : List ℕ) → a ++ b ++ c ++ e ++ f ++ y ≡ a ++ (b ++ (c ++ (e ++ (f ++ y))))
 grouped_5 a b c e f y = simp append_assoc
 
 grouped_6 : (a b c e f g y : List ℕ) → a ++ b ++ c ++ e ++ f ++ g ++ y ≡ a ++ (b ++ (c ++ (e ++ (f ++ (g ++ y)))))

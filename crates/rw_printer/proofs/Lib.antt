@@ -11,3 +11,8 @@ pub mod Fronts
 pub mod Lexed
 pub mod ReadsBack
 pub mod SpelledValues
+pub mod Spelling
+pub mod SpeltParts
+pub mod SpeltSums
+pub mod SpeltLines
+pub mod SpelledCerts

@@ -26,7 +26,7 @@ use Rattle.rw_syntax.specs.Grammar.{Leaf, number, word, initial, place, truth, T
 use Rattle.rw_printer.specs.Readable.{both, all_of, some_and_all, readable_term_step, readable_term, readable_step, readable_formula}
 use Rattle.rw_printer.proofs.Fits.{split_both}
 
-abbrev IsGood : ℕ → Part → Type 0
+abbrev pub IsGood : ℕ → Part → Type 0
 IsGood n (parts.Term t) = readable_term t n ≡ true
 IsGood n (parts.Formula f) = readable_formula f n ≡ true
 
@@ -36,14 +36,14 @@ term_good x n p = ap (λ f. f n) (fold-roll-Term (ℕ → Bool) readable_term_st
 formula_good : (x : Formula-F Formula) (n : ℕ) → readable_step (map-Formula Formula (ℕ → Bool) readable_formula x) n ≡ true → readable_formula (roll-Formula x) n ≡ true
 formula_good x n p = ap (λ f. f n) (fold-roll-Formula (ℕ → Bool) readable_step x) ∙ p
 
-both_true : (a b : Bool) → a ≡ true → b ≡ true → both a b ≡ true
+pub both_true : (a b : Bool) → a ≡ true → b ≡ true → both a b ≡ true
 both_true a b e f = ap (λ x. both x b) e ∙ f
 
-as_term_good : (n : ℕ) (v : Part) → IsGood n v → readable_term (as_term v) n ≡ true
+pub as_term_good : (n : ℕ) (v : Part) → IsGood n v → readable_term (as_term v) n ≡ true
 as_term_good n (parts.Term t) g = g
 as_term_good n (parts.Formula f) g = term_good (Term-F.Lit (pos 0)) n refl
 
-as_formula_good : (n : ℕ) (v : Part) → IsGood n v → readable_formula (as_formula v) n ≡ true
+pub as_formula_good : (n : ℕ) (v : Part) → IsGood n v → readable_formula (as_formula v) n ≡ true
 as_formula_good n (parts.Term t) g = formula_good Formula-F.True n refl
 as_formula_good n (parts.Formula f) g = g
 
@@ -150,7 +150,7 @@ applied_good (heads.Named w) n ts v g h = go (is_upper w) refl
     go false e = term_good (Term-F.Fun w args) n (both_true (not (is_upper w)) (some_and_all (map (λ a. a n) (map readable_term args))) (ap not e) all)
 
 mutual
-  good : (t : Tree) (env : List Binder) → IsFormed env t → IsGood (length env) (part env t)
+  pub good : (t : Tree) (env : List Binder) → IsFormed env t → IsGood (length env) (part env t)
   good (leaf l) env f = leaf_good l env f
   good (prefix p t) env f = prefixed_good p env (part (inner p env) t) f.0 (good t (inner p env) f.2)
   good (binary op l r) env f = joined_good op (length env) (part env l) (part env r) (good l env f.2) (good r env f.3)

@@ -1,4 +1,5 @@
 pub mod Trees
 pub mod Layout
+pub mod Lines
 pub mod Readable
 pub mod ReadsBack

@@ -1,6 +1,8 @@
-//! Prints terms, formulas, specifications and sequents. What is printed of a term or a formula reads back as it.
+//! Prints terms, formulas, specifications, sequents and certificates. What is printed of a term, a formula or a
+//! certificate reads back as it.
 #![tactic(auto)]
 
+mod certificates;
 mod formulas;
 pub mod laws;
 mod levels;
@@ -10,4 +12,7 @@ mod terms;
 #[cfg(test)]
 mod tests;
 
-pub use printing::{print_formula, print_sequent, print_spec, print_term, push_sequent, push_spec};
+pub use certificates::push_cert;
+pub use printing::{
+    print_cert, print_formula, print_sequent, print_spec, print_term, push_sequent, push_spec,
+};

@@ -2,11 +2,14 @@
 
 ghost use Rattle.std.specs.Prelude.{◌≡◌, ◌++◌, [], map, IfOk, OnOk, codes};
 ghost use Rattle.rw_printer.specs.Layout.{printed_term, printed_formula, names_text, formulas_text, left_text, right_text, spec_text, sequent_text};
-ghost use Rattle.rw_printer.specs.ReadsBack.{TermReadsBack, FormulaReadsBack};
+ghost use Rattle.rw_printer.specs.Lines.{cert_text};
+ghost use Rattle.rw_printer.specs.ReadsBack.{TermReadsBack, FormulaReadsBack, CertReadsBack};
 
+use crate::certificates::push_cert;
 use crate::formulas::push_formula;
 use crate::terms::push_term;
 use rw_programs::prog::Spec;
+use rw_sequents::line::Cert;
 use rw_terms::name::Name;
 use rw_terms::sequent::Sequent;
 use rw_terms::term::{Formula, Term};
@@ -32,6 +35,16 @@ pub fn print_formula(alloc: Global, formula: &Formula) -> Result<Text, AllocErro
 {
     let mut text = Text::new(alloc);
     push_formula(&mut text, 0, formula)?;
+    Ok(text)
+}
+
+/// The text of a certificate, `allL 1 x ; ax`, which reads back as it.
+pub fn print_cert(alloc: Global, cert: &Cert) -> Result<Text, AllocError>
+    ensures text { IfOk result (λ text. text ≡ cert_text cert.now) }
+    ensures reads_back { IfOk result (λ text. CertReadsBack text cert.now) }
+{
+    let mut text = Text::new(alloc);
+    push_cert(&mut text, cert)?;
     Ok(text)
 }
 

@@ -1,9 +1,9 @@
 //! What is printed, by tables, and that it reads back.
 
-use crate::{print_formula, print_sequent, print_spec, print_term};
+use crate::{print_cert, print_formula, print_sequent, print_spec, print_term};
 use rw_items::{Boxed, Items};
 use rw_programs::prog::Spec;
-use rw_reader::{read_formula, read_term};
+use rw_reader::{read_cert, read_formula, read_term};
 use rw_terms::name::Name;
 use rw_terms::sameness::{same, same_term};
 use rw_terms::sequent::Sequent;
@@ -227,4 +227,43 @@ fn side(rt: &impl Abort, alloc: Global, texts: &[&[u8]]) -> Result<Items<Formula
         side.push(one.into_inner())?;
     }
     Ok(side)
+}
+
+#[test]
+fn certificates_are_printed(rt: HostRuntime) -> Result<(), Fail> {
+    let cases: [(&[u8], &[u8]); 8] = [
+        (b"ax;falseL ;trueR; refl", b"ax ; falseL ; trueR ; refl"),
+        (
+            b"cut  x=1;dropL 1;andR 4294967295",
+            b"cut x = 1 ; dropL 1 ; andR 4294967295",
+        ),
+        (
+            b"allL 1 x+1;exR 2 a[0];allR 1 y;exL 2 y",
+            b"allL 1 x + 1 ; exR 2 a[0] ; allR 1 y ; exL 2 y",
+        ),
+        (
+            b"rwL 1 2;rwR 1 2;eqR 1;flip 2",
+            b"rwL 1 2 ; rwR 1 2 ; eqR 1 ; flip 2",
+        ),
+        (
+            b"putSame a,i,e;putOther a,i,e,(j)",
+            b"putSame a, i, e ; putOther a, i, e, j",
+        ),
+        (b"arrExt a,b;divMod x,-y", b"arrExt a, b ; divMod x, -y"),
+        (
+            b"lin[1*L1+-2*R1+3*1][3/2];ax",
+            b"lin [1*L1 + -2*R1 + 3*1] [3/2] ; ax",
+        ),
+        (
+            b"unfoldL 1;unfoldR 2;lemma N();lemma n(x,y)",
+            b"unfoldL 1 ; unfoldR 2 ; lemma N() ; lemma n(x, y)",
+        ),
+    ];
+    for (read, printed) in cases {
+        assert!(rt; read.len() <= 65536);
+        let cert = read_cert(rt.alloc(), read)?;
+        let text = print_cert(rt.alloc(), &cert)?;
+        assert_eq!(rt; text.bytes(), printed);
+    }
+    Ok(())
 }

@@ -1,11 +1,11 @@
 -- An arithmetic line that begins with a number: only the number of a line may be divided.
-use Rattle.std.proofs.Common.{◌≡◌, ◌<◌, ◌≤◌, ℕ, Bool, true, false, cond, List, refl, ap, ◌∙◌, arith}
-use Rattle.std.specs.Prelude.{codes, leb, pos, nat_lt}
+use Rattle.std.proofs.Common.{◌≡◌, ◌<◌, ◌≤◌, ℕ, true, false, cond, List, ap, arith}
+use Rattle.std.specs.Prelude.{codes, leb, pos}
 use Rattle.std.proofs.lemmas.Bool.Decides.{nat_tests}
 use Rattle.rw_arith.specs.declared.line.LinLine.{LinLine}
 use Rattle.rw_arith.specs.declared.line.LinLine.TheVariants as sums
 use Rattle.rw_reader.specs.Forms.{Form, either}
-use Rattle.rw_reader.specs.Reading.{Ending, read_form}
+use Rattle.rw_reader.specs.Reading.{read_form}
 use Rattle.rw_reader.specs.Certificates.{any_number, sum_of, sum_or_quotient}
 
 great : (n : ℕ) → 4294967295 < n → leb n 4294967295 ≡ false

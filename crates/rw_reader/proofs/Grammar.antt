@@ -18,8 +18,8 @@ use Rattle.rw_syntax.proofs.Outside.{advance_stops}
 use Rattle.rw_arith.specs.declared.line.Ref.TheVariants as refs
 use Rattle.rw_reader.specs.Tokens.{Token, text, number, binder}
 use Rattle.rw_reader.specs.Classes.{class_of, AreClasses}
-use Rattle.rw_reader.specs.Forms.{Slot, exactly, a_variable, a_constant, a_number, a_reference, Filled, filled, is_text, is_variable, is_constant, Given, Form, gives, takes, either, rest_of, more_of, followed, fewer, behind, AreItems, IsOf}
-use Rattle.rw_reader.specs.Reading.{value_of, one_more, ends_class, ends_value, gone_on, after, given}
+use Rattle.rw_reader.specs.Forms.{Slot, exactly, a_variable, a_constant, any_name, a_number, a_reference, Filled, filled, is_text, is_variable, is_constant, Given, Form, gives, takes, either, rest_of, more_of, one_of, followed, fewer, behind, AreItems, IsOf}
+use Rattle.rw_reader.specs.Reading.{value_of, one_more, ends_class, ends_value, gone_on, first_of, after, given}
 use Rattle.rw_reader.proofs.Plain.{plain_tokens}
 
 pub some_is : {A : Type 0} {x y : A} → Some x ≡ Some y → x ≡ y
@@ -56,22 +56,25 @@ starts (takes s k) F t = is_some (filled s t)
 starts (either w f g) F t = is_text w t || starts g F t
 starts (rest_of most goal done k) F t = opens goal done t
 starts (more_of item sep done k) F t = is_text sep t || starts (k done) F t
+starts (one_of f g) F t = starts f F t || starts g F t
 
 abbrev pub is_met : Slot → Bool
 is_met (exactly w) = true
 is_met a_variable = true
 is_met a_constant = true
+is_met any_name = true
 is_met (a_number least most) = leb least most
 is_met a_reference = true
 
--- At each choice only one side begins with the word, what follows a value ends it, and what follows a list goes on
--- with no separator. What is given is of a kind.
+-- At each choice only one side begins with the word or with a token, what follows a value ends it, and what follows a
+-- list goes on with no separator. What is given is of a kind.
 abbrev pub Keeps : (Given → Type 0) → (Token → Bool) → Form → Type 0
 Keeps P F (gives g) = P g
 Keeps P F (takes s k) = (is_met s ≡ true) × ((x : Filled s) → Keeps P F (k x))
 Keeps P F (either w f g) = (starts g F (text w) ≡ false) × Keeps P F f × Keeps P F g
 Keeps P F (rest_of most goal done k) = (goal ≤ 9) × ((s : State) × (run_within most goal (wants []) done ≡ Some s)) × ((v : Part) (t : Token) → starts (k v) F t ≡ true → ends_value t ≡ true) × ((v : Part) → Keeps P F (k v))
 Keeps P F (more_of item sep done k) = (G : Token → Bool) × (G (text sep) ≡ true) × ((gs : List Given) (t : Token) → starts (k gs) F t ≡ true → G t ≡ true) × ((gs : List Given) → starts (k gs) F (text sep) ≡ false) × Keeps (λ g. Unit {0}) G item × ((gs : List Given) → Keeps P F (k gs))
+Keeps P F (one_of f g) = ((t : Token) → starts f F t ≡ true → starts g F t ≡ false) × (given f ≡ None) × Keeps P F f × Keeps P F g
 
 -- what follows a form that is followed
 
@@ -79,15 +82,33 @@ either_true : (a b c : Bool) → (b ≡ true → c ≡ true) → (a || b) ≡ tr
 either_true true b c h e = refl
 either_true false b c h e = h e
 
+either_both : (a b c d : Bool) → (a ≡ true → c ≡ true) → (b ≡ true → d ≡ true) → (a || b) ≡ true → (c || d) ≡ true
+either_both true b c d h i e = ap (λ x. x || d) (h refl)
+either_both false b c d h i e = right_true c d (i e)
+
 pub starts_followed : (f : Form) (j : Given → Form) (F F2 : Token → Bool) (t : Token) → ((g : Given) → starts (j g) F2 t ≡ true → F t ≡ true) → starts (followed f j) F2 t ≡ true → starts f F t ≡ true
 starts_followed (gives g) j F F2 t h e = h g e
 starts_followed (takes s k) j F F2 t h e = e
 starts_followed (either w f g) j F F2 t h e = either_true (is_text w t) (starts (followed g j) F2 t) (starts g F t) (λ x. starts_followed g j F F2 t h x) e
 starts_followed (rest_of most goal done k) j F F2 t h e = e
 starts_followed (more_of item sep done k) j F F2 t h e = either_true (is_text sep t) (starts (followed (k done) j) F2 t) (starts (k done) F t) (λ x. starts_followed (k done) j F F2 t h x) e
+starts_followed (one_of f g) j F F2 t h e = either_both (starts (followed f j) F2 t) (starts (followed g j) F2 t) (starts f F t) (starts g F t) (λ x. starts_followed f j F F2 t h x) (λ x. starts_followed g j F F2 t h x) e
 
 starts_no : (f : Form) (j : Given → Form) (F F2 : Token → Bool) (t : Token) → ((g : Given) → starts (j g) F2 t ≡ true → F t ≡ true) → starts f F t ≡ false → starts (followed f j) F2 t ≡ false
 starts_no f j F F2 t h e = not_true (starts (followed f j) F2 t) (λ x. true≢false (sym (starts_followed f j F F2 t h x) ∙ e))
+
+-- what gives nothing where the tokens end gives nothing when it is followed
+none_followed : (f : Form) (j : Given → Form) → given f ≡ None → given (followed f j) ≡ None
+none_followed (gives g) j e = absurd (cc)
+none_followed (takes s k) j e = refl
+none_followed (either w f g) j e = none_followed g j e
+none_followed (rest_of most goal done k) j e = none_value (value_of most goal done) (λ v. given (k v)) (λ v. given (followed (k v) j)) e (λ v x. none_followed (k v) j x)
+  where
+    none_value : (o : Option Part) (a b : Part → Option Given) → option_and_then a o ≡ None → ((v : Part) → a v ≡ None → b v ≡ None) → option_and_then b o ≡ None
+    none_value None a b e h = refl
+    none_value (Some v) a b e h = h v e
+none_followed (more_of item sep done k) j e = none_followed (k done) j e
+none_followed (one_of f g) j e = none_followed g j e
 
 pub keeps_followed : (f : Form) (j : Given → Form) (P Q : Given → Type 0) (F F2 : Token → Bool) → ((g : Given) (t : Token) → starts (j g) F2 t ≡ true → F t ≡ true) → ((g : Given) → Keeps Q F2 (j g)) → Keeps P F f → Keeps Q F2 (followed f j)
 keeps_followed (gives g) j P Q F F2 h k p = k g
@@ -95,6 +116,7 @@ keeps_followed (takes s m) j P Q F F2 h k p = (p.0, λ x. keeps_followed (m x) j
 keeps_followed (either w f g) j P Q F F2 h k p = (starts_no g j F F2 (text w) (λ x. h x (text w)) p.0, keeps_followed f j P Q F F2 h k p.1, keeps_followed g j P Q F F2 h k p.2)
 keeps_followed (rest_of most goal done m) j P Q F F2 h k p = (p.0, p.1, (λ v t e. p.2 v t (starts_followed (m v) j F F2 t (λ x. h x t) e)), (λ v. keeps_followed (m v) j P Q F F2 h k (p.3 v)))
 keeps_followed (more_of item sep done m) j P Q F F2 h k p = (p.0, p.1, (λ gs t e. p.2 gs t (starts_followed (m gs) j F F2 t (λ x. h x t) e)), (λ gs. starts_no (m gs) j F F2 (text sep) (λ x. h x (text sep)) (p.3 gs)), p.4, (λ gs. keeps_followed (m gs) j P Q F F2 h k (p.5 gs)))
+keeps_followed (one_of f g) j P Q F F2 h k p = ((λ t e. starts_no g j F F2 t (λ x. h x t) (p.0 t (starts_followed f j F F2 t (λ x. h x t) e))), none_followed f j p.1, keeps_followed f j P Q F F2 h k p.2, keeps_followed g j P Q F F2 h k p.3)
 
 -- how a value goes on with a token
 data Going (most goal : ℕ) (done : List Class) (t : Token) (o : Option (List Class)) : Type 0 where
@@ -151,16 +173,21 @@ items_keep P F item sep done k p = keeps_followed item (λ g. more_of item sep (
     begun_item P F item sep gs k p t true z e = subst (λ x. p.0 x ≡ true) (sym (text_is sep t z)) p.1
     begun_item P F item sep gs k p t false z e = p.2 gs t e
 
+first_keeps : (P : Given → Type 0) (F : Token → Bool) (f2 : Form) (a b : Option Form) → (a ≡ Some f2 → Keeps P F f2) → (b ≡ Some f2 → Keeps P F f2) → first_of a b ≡ Some f2 → Keeps P F f2
+first_keeps P F f2 None b h i e = i e
+first_keeps P F f2 (Some x) b h i e = h e
+
 pub keeps_after : (P : Given → Type 0) (F : Token → Bool) (f f2 : Form) (t : Token) → Keeps P F f → after f t ≡ Some f2 → Keeps P F f2
 keeps_after P F (gives g) f2 t k e = absurd (cc)
 keeps_after P F (takes s m) f2 t k e = slot_keeps P F s m f2 k.1 (filled s t) e
 keeps_after P F (either w f g) f2 t k e = pick_keeps P F f f2 (after g t) k.1 (λ x. keeps_after P F g f2 t k.2 x) (is_text w t) e
 keeps_after P F (rest_of most goal done m) f2 t k e = value_keeps P F most goal done m f2 t k (λ v x. keeps_after P F (m v) f2 t (k.3 v) x) (option_and_then (one_more most goal done) (class_of t)) (going most goal done t) e
 keeps_after P F (more_of item sep done m) f2 t k e = pick_keeps P F (followed item (λ g. more_of item sep (done ++ g ∷ []) m)) f2 (after (m done) t) (items_keep P F item sep done m k) (λ x. keeps_after P F (m done) f2 t (k.5 done) x) (is_text sep t) e
+keeps_after P F (one_of f g) f2 t k e = first_keeps P F f2 (after f t) (after g t) (λ x. keeps_after P F f f2 t k.2 x) (λ x. keeps_after P F g f2 t k.3 x) e
 
 -- numbers of tokens
 
-behind_both : (n : ℕ) (a b : List Token) → behind n (a ++ b) ≡ behind (behind n a) b
+pub behind_both : (n : ℕ) (a b : List Token) → behind n (a ++ b) ≡ behind (behind n a) b
 behind_both n [] b = refl
 behind_both n (t ∷ a) b = behind_both (fewer n) a b
 
@@ -232,6 +259,8 @@ split (more_of item sep done k) j n ts v i =
       is = record { items = i.items; own = i.own; rest = r.own; tokens_are = refl; are = i.are; more = r.is };
       more = subst (λ m. IsOf (j r.item) m r.rest v) (sym (behind_both n i.own r.own)) r.more;
     }
+split (one_of f g) j n ts v (inl i) = let r = split f j n ts v i in record { own = r.own; rest = r.rest; item = r.item; tokens_are = r.tokens_are; is = inl r.is; more = r.more }
+split (one_of f g) j n ts v (inr i) = let r = split g j n ts v i in record { own = r.own; rest = r.rest; item = r.item; tokens_are = r.tokens_are; is = inr r.is; more = r.more }
 
 pub join : (f : Form) (j : Given → Form) (n : ℕ) (own rest : List Token) (g v : Given) → IsOf f n own g → IsOf (j g) (behind n own) rest v → IsOf (followed f j) n (own ++ rest) v
 join (gives h) j n own rest g v i m = subst (λ l. IsOf (j h) n (l ++ rest) v) (sym i.0) (subst (λ x. IsOf (j x) n rest v) i.1 (subst (λ l. IsOf (j g) (behind n l) rest v) i.0 m))
@@ -266,6 +295,8 @@ join (more_of item sep done k) j n own rest g v i m = record {
   are = i.are;
   more = join (k (done ++ i.items)) j (behind n i.own) i.rest rest g v i.more (subst (λ l. IsOf (j g) l rest v) (ap (behind n) i.tokens_are ∙ behind_both n i.own i.rest) m);
 }
+join (one_of f h) j n own rest g v (inl i) m = inl (join f j n own rest g v i m)
+join (one_of f h) j n own rest g v (inr i) m = inr (join h j n own rest g v i m)
 
 -- a value that ends here
 ends_here : (most goal : ℕ) (done : List Class) (k : Part → Form) (n : ℕ) (ts : List Token) (v : Given) (w : Part) → Written most goal done w → IsOf (k w) n ts v → IsOf (rest_of most goal done k) n ts v
@@ -352,12 +383,17 @@ list_sound : (item : Form) (sep : List ℕ) (done : List Given) (k : List Given 
 list_sound item sep done k f2 t n ts v i h true z e = subst (λ u. IsOf (more_of item sep done k) (suc n) (u ∷ ts) v) (sym (text_is sep t z)) (lists_on item sep done k n ts v (subst (λ x. IsOf x n ts v) (sym (some_form e)) i))
 list_sound item sep done k f2 t n ts v i h false z e = no_more item sep done k (suc n) (t ∷ ts) v (h e)
 
+first_sound : (f g f2 : Form) (t : Token) (n : ℕ) (ts : List Token) (v : Given) → (after f t ≡ Some f2 → IsOf f (suc n) (t ∷ ts) v) → (after g t ≡ Some f2 → IsOf g (suc n) (t ∷ ts) v) → (o : Option Form) → after f t ≡ o → first_of o (after g t) ≡ Some f2 → IsOf (one_of f g) (suc n) (t ∷ ts) v
+first_sound f g f2 t n ts v h i None z e = inr (i e)
+first_sound f g f2 t n ts v h i (Some x) z e = inl (h (z ∙ e))
+
 pub sound : (P : Given → Type 0) (F : Token → Bool) (f f2 : Form) (t : Token) (n : ℕ) (ts : List Token) (v : Given) → Keeps P F f → after f t ≡ Some f2 → IsOf f2 n ts v → IsOf f (suc n) (t ∷ ts) v
 sound P F (gives g) f2 t n ts v p e i = absurd (cc)
 sound P F (takes s k) f2 t n ts v p e i = slot_sound s k f2 t n ts v i (filled s t) refl e
 sound P F (either w f g) f2 t n ts v p e i = pick_sound w f g f2 t n ts v i (λ x. sound P F g f2 t n ts v p.2 x i) (is_text w t) refl e
 sound P F (rest_of most goal done k) f2 t n ts v p e i = value_sound most goal done k f2 t n ts v p.0 i (λ w x. sound P F (k w) f2 t n ts v (p.3 w) x i) (option_and_then (one_more most goal done) (class_of t)) (going most goal done t) e
 sound P F (more_of item sep done k) f2 t n ts v p e i = list_sound item sep done k f2 t n ts v i (λ x. sound P F (k done) f2 t n ts v (p.5 done) x i) (is_text sep t) refl e
+sound P F (one_of f g) f2 t n ts v p e i = first_sound f g f2 t n ts v (λ x. sound P F f f2 t n ts v p.2 x i) (λ x. sound P F g f2 t n ts v p.3 x i) (after f t) refl e
 
 -- what is met begins as its form does
 
@@ -387,6 +423,64 @@ begins P F (either w f g) n t ts v p (inl c) = let e : t ≡ text w = cc (c.1) i
 begins P F (either w f g) n t ts v p (inr i) = right_true (is_text w t) (starts g F t) (begins P F g n t ts v p.2 i)
 begins P F (rest_of most goal done k) n t ts v p i = value_starts goal done i.classes t ts i.own i.rest i.tree p.0 i.tokens_are i.are i.formed i.fit i.written
 begins P F (more_of item sep done k) n t ts v p i = list_starts P F item sep done k n t ts v i.items i.own i.rest i.tokens_are i.are i.more (λ m x. begins P F (k done) m t ts v (p.5 done) x)
+begins P F (one_of f g) n t ts v p (inl i) = ap (λ b. b || starts g F t) (begins P F f n t ts v p.2 i)
+begins P F (one_of f g) n t ts v p (inr i) = right_true (starts f F t) (starts g F t) (begins P F g n t ts v p.3 i)
+
+-- every form that keeps its choices apart is met
+
+pub record Met (P : Given → Type 0) (f : Form) : Type 0 where
+  pub tokens : List Token
+  pub value : Given
+  pub is : IsOf f 0 tokens value
+  pub fine : P value
+
+slot_filled : (s : Slot) → is_met s ≡ true → (t : Token) × (x : Filled s) × (filled s t ≡ Some x)
+unfolding is_variable is_constant is_name is_reserved reserved
+slot_filled (exactly w) e = (text w, tt, ap (λ b. cond b (Some tt) None) (is_text_own w))
+slot_filled a_variable e = (text (codes "a"), codes "a", refl)
+slot_filled a_constant e = (text (codes "A"), codes "A", refl)
+slot_filled any_name e = (text (codes "a"), codes "a", refl)
+slot_filled a_reference e = (number 0, refs.Line 0, refl)
+slot_filled (a_number least most) e = (number least, least, ap (λ b. cond (b && leb least most) (Some least) None) (own least) ∙ ap (λ b. cond b (Some least) None) e)
+  where
+    own : (n : ℕ) → leb n n ≡ true
+    own n = grind (arith, nat_tests)
+
+pub met : (P : Given → Type 0) (F : Token → Bool) (f : Form) → Keeps P F f → Met P f
+met P F (gives g) p = record { tokens = []; value = g; is = (refl, refl); fine = p }
+met P F (takes s k) p =
+    let x = slot_filled s p.0 in
+    let r = met P F (k x.1) (p.1 x.1) in
+    record { tokens = x.0 ∷ r.tokens; value = r.value; is = record { first = x.0; rest = r.tokens; filling = x.1; tokens_are = refl; fills = x.2; more = r.is }; fine = r.fine }
+met P F (either w f g) p = let r = met P F g p.2 in record { tokens = r.tokens; value = r.value; is = inr r.is; fine = r.fine }
+met P F (rest_of most goal done k) p =
+    let c = runs_plain most goal done p.1.0 p.0 p.1.1 in
+    let own = plain_tokens c.0.rest c.1 in
+    let w = part [] c.0.tree in
+    let r = met P F (k w) (p.3 w) in
+    record {
+      tokens = own.0 ++ r.tokens;
+      value = r.value;
+      is = record {
+        own = own.0;
+        rest = r.tokens;
+        classes = c.0.rest;
+        tree = c.0.tree;
+        tokens_are = refl;
+        are = own.1;
+        formed = c.0.formed;
+        fit = c.0.fit;
+        written = c.0.written;
+        within = subst (λ m. AreWithin most (take m (nests 0 c.0.tree))) (plus_none (length done)) c.0.within;
+        more = subst (λ m. IsOf (k w) m r.tokens r.value) (sym (behind_zero own.0)) r.is;
+      };
+      fine = r.fine;
+    }
+  where
+    plus_none : (m : ℕ) → m ≡ m + 0
+    plus_none m = omega arith
+met P F (more_of item sep done k) p = let r = met P F (k done) (p.5 done) in record { tokens = r.tokens; value = r.value; is = no_more item sep done k 0 r.tokens r.value r.is; fine = r.fine }
+met P F (one_of f g) p = let r = met P F g p.3 in record { tokens = r.tokens; value = r.value; is = inr r.is; fine = r.fine }
 
 -- what is met with a token is met behind it
 
@@ -464,6 +558,24 @@ list_next P F item sep done k t n ts v p (g ∷ gs) own rest e a i h =
       is = subst (λ l. IsOf (followed item (λ x. more_of item sep (done ++ x ∷ []) k)) n l v) (sym (tokens ∙ append_assoc a.0 a.1 rest)) (join item (λ x. more_of item sep (done ++ x ∷ []) k) n a.0 (a.1 ++ rest) g v a.3 more);
     }
 
+-- a form that goes on with a token begins with it
+goes_begins : (P : Given → Type 0) (F : Token → Bool) (f f2 : Form) (t : Token) → Keeps P F f → after f t ≡ Some f2 → starts f F t ≡ true
+goes_begins P F f f2 t p e =
+    let r = met P F f2 (keeps_after P F f f2 t p e) in
+    begins P F f 1 t r.tokens r.value p (sound P F f f2 t 0 r.tokens r.value p e r.is)
+
+none_after : (P : Given → Type 0) (F : Token → Bool) (f : Form) (t : Token) → Keeps P F f → starts f F t ≡ false → after f t ≡ None
+none_after P F f t p n = go (after f t) refl
+  where
+    go : (o : Option Form) → after f t ≡ o → o ≡ None
+    go None e = refl
+    go (Some f2) e = absurd (true≢false (sym (goes_begins P F f f2 t p e) ∙ n))
+
+-- where the first of two forms does not begin with a token
+apart : (a b : Bool) → (a ≡ true → b ≡ false) → b ≡ true → a ≡ false
+apart true b h e = absurd (true≢false (sym e ∙ h refl))
+apart false b h e = refl
+
 pub next : (P : Given → Type 0) (F : Token → Bool) (f : Form) (t : Token) (n : ℕ) (ts : List Token) (v : Given) → Keeps P F f → IsOf f (suc n) (t ∷ ts) v → Next f t n ts v
 next P F (gives g) t n ts v p i = let z : t ∷ ts ≡ [] = i.0 in absurd (cc)
 next P F (takes s k) t n ts v p i =
@@ -477,6 +589,11 @@ next P F (either w f g) t n ts v p (inl c) =
 next P F (either w f g) t n ts v p (inr i) = pick_other P F w f g t n ts v p.0 (begins P F g (suc n) t ts v p.2 i) (next P F g t n ts v p.2 i) (is_text w t) refl
 next P F (rest_of most goal done k) t n ts v p i = value_next P F most goal done k t n ts v p i.own i.rest i.classes i.tree i.tokens_are i.are i.formed i.fit i.written i.within i.more (λ w x. next P F (k w) t n ts v (p.3 w) x)
 next P F (more_of item sep done k) t n ts v p i = list_next P F item sep done k t n ts v p i.items i.own i.rest i.tokens_are i.are i.more (λ x. next P F (k done) t n ts v (p.5 done) x)
+next P F (one_of f g) t n ts v p (inl i) = let r = next P F f t n ts v p.2 i in record { form = r.form; is_after = ap (λ o. first_of o (after g t)) r.is_after; is = r.is }
+next P F (one_of f g) t n ts v p (inr i) =
+    let r = next P F g t n ts v p.3 i in
+    let never : starts f F t ≡ false = apart (starts f F t) (starts g F t) (p.0 t) (begins P F g (suc n) t ts v p.3 i) in
+    record { form = r.form; is_after = ap (λ o. first_of o (after g t)) (none_after P F f t p.2 never) ∙ r.is_after; is = r.is }
 
 -- the end of the tokens
 
@@ -486,6 +603,7 @@ ends_is P F (takes s k) n v p e = absurd (cc)
 ends_is P F (either w f g) n v p e = inr (ends_is P F g n v p.2 e)
 ends_is P F (rest_of most goal done k) n v p e = let c = chained (λ w. given (k w)) (value_of most goal done) v e in ends_here most goal done k n [] v c.0 (value_written most goal done c.0 p.0 c.1) (ends_is P F (k c.0) n v (p.3 c.0) c.2)
 ends_is P F (more_of item sep done k) n v p e = no_more item sep done k n [] v (ends_is P F (k done) n v (p.5 done) e)
+ends_is P F (one_of f g) n v p e = inr (ends_is P F g n v p.3 e)
 
 both_empty : (a b : List Token) → [] ≡ a ++ b → (a ≡ []) × (b ≡ [])
 both_empty [] b e = (refl, sym e)
@@ -506,60 +624,8 @@ is_given P F (rest_of most goal done k) n v p i =
     let sp = whole_value most goal done i.tree i.classes n p.0 i.formed i.fit i.written none i.within in
     ap (option_and_then (λ w. given (k w))) (written_value most goal done (part [] i.tree) p.0 sp) ∙ is_given P F (k (part [] i.tree)) (behind n i.own) v (p.3 (part [] i.tree)) (subst (λ l. IsOf (k (part [] i.tree)) (behind n i.own) l v) z.1 i.more)
 is_given P F (more_of item sep done k) n v p i = list_given item sep done k n v i.items i.own i.rest i.tokens_are i.are i.more (λ m x. is_given P F (k done) m v (p.5 done) x)
-
--- every form that keeps its choices apart is met
-
-pub record Met (P : Given → Type 0) (f : Form) : Type 0 where
-  pub tokens : List Token
-  pub value : Given
-  pub is : IsOf f 0 tokens value
-  pub fine : P value
-
-slot_filled : (s : Slot) → is_met s ≡ true → (t : Token) × (x : Filled s) × (filled s t ≡ Some x)
-unfolding is_variable is_constant is_name is_reserved reserved
-slot_filled (exactly w) e = (text w, tt, ap (λ b. cond b (Some tt) None) (is_text_own w))
-slot_filled a_variable e = (text (codes "a"), codes "a", refl)
-slot_filled a_constant e = (text (codes "A"), codes "A", refl)
-slot_filled a_reference e = (number 0, refs.Line 0, refl)
-slot_filled (a_number least most) e = (number least, least, ap (λ b. cond (b && leb least most) (Some least) None) (own least) ∙ ap (λ b. cond b (Some least) None) e)
-  where
-    own : (n : ℕ) → leb n n ≡ true
-    own n = grind (arith, nat_tests)
-
-pub met : (P : Given → Type 0) (F : Token → Bool) (f : Form) → Keeps P F f → Met P f
-met P F (gives g) p = record { tokens = []; value = g; is = (refl, refl); fine = p }
-met P F (takes s k) p =
-    let x = slot_filled s p.0 in
-    let r = met P F (k x.1) (p.1 x.1) in
-    record { tokens = x.0 ∷ r.tokens; value = r.value; is = record { first = x.0; rest = r.tokens; filling = x.1; tokens_are = refl; fills = x.2; more = r.is }; fine = r.fine }
-met P F (either w f g) p = let r = met P F g p.2 in record { tokens = r.tokens; value = r.value; is = inr r.is; fine = r.fine }
-met P F (rest_of most goal done k) p =
-    let c = runs_plain most goal done p.1.0 p.0 p.1.1 in
-    let own = plain_tokens c.0.rest c.1 in
-    let w = part [] c.0.tree in
-    let r = met P F (k w) (p.3 w) in
-    record {
-      tokens = own.0 ++ r.tokens;
-      value = r.value;
-      is = record {
-        own = own.0;
-        rest = r.tokens;
-        classes = c.0.rest;
-        tree = c.0.tree;
-        tokens_are = refl;
-        are = own.1;
-        formed = c.0.formed;
-        fit = c.0.fit;
-        written = c.0.written;
-        within = subst (λ m. AreWithin most (take m (nests 0 c.0.tree))) (plus_none (length done)) c.0.within;
-        more = subst (λ m. IsOf (k w) m r.tokens r.value) (sym (behind_zero own.0)) r.is;
-      };
-      fine = r.fine;
-    }
-  where
-    plus_none : (m : ℕ) → m ≡ m + 0
-    plus_none m = omega arith
-met P F (more_of item sep done k) p = let r = met P F (k done) (p.5 done) in record { tokens = r.tokens; value = r.value; is = no_more item sep done k 0 r.tokens r.value r.is; fine = r.fine }
+is_given P F (one_of f g) n v p (inl i) = let z : Some v ≡ None = sym (is_given P F f n v p.2 i) ∙ p.1 in absurd (cc)
+is_given P F (one_of f g) n v p (inr i) = is_given P F g n v p.3 i
 
 -- what is given is of the kind
 pub given_fine : (P : Given → Type 0) (F : Token → Bool) (f : Form) (v : Given) → Keeps P F f → given f ≡ Some v → P v
@@ -568,3 +634,4 @@ given_fine P F (takes s k) v p e = absurd (cc)
 given_fine P F (either w f g) v p e = given_fine P F g v p.2 e
 given_fine P F (rest_of most goal done k) v p e = let c = chained (λ w. given (k w)) (value_of most goal done) v e in given_fine P F (k c.0) v (p.3 c.0) c.2
 given_fine P F (more_of item sep done k) v p e = given_fine P F (k done) v (p.5 done) e
+given_fine P F (one_of f g) v p e = given_fine P F g v p.3 e

@@ -6,6 +6,7 @@ use Rattle.rw_terms.specs.declared.term.Sort.{Sort}
 use Rattle.rw_terms.specs.declared.term.Sort.TheVariants as sorts
 use Rattle.rw_terms.specs.declared.term.Term.{Term}
 use Rattle.rw_terms.specs.declared.term.Formula.{Formula}
+use Rattle.rw_terms.specs.Named.{Named}
 use Rattle.rw_programs.specs.declared.prog.Spec.{Spec}
 use Rattle.rw_nodes.specs.declared.edit.Place.{Place}
 use Rattle.rw_syntax.specs.Machine.{run_within}
@@ -13,8 +14,8 @@ use Rattle.rw_syntax.specs.declared.state.State.TheVariants.{Wants as wants}
 use Rattle.rw_syntax.specs.Grammar.{as_term, as_formula}
 use Rattle.rw_reader.specs.Tokens.{Token, text}
 use Rattle.rw_reader.specs.Classes.{mark_texts, text_class, class_of}
-use Rattle.rw_reader.specs.Forms.{is_text, Given, Form, gives, takes, a_number, more_of, many}
-use Rattle.rw_reader.specs.Phrases.{formula, term, mark, sort, name_form, name_in, names, constant_form, constants, frame, bracketed, spec, kid_form, kid_in, kids, place, place_at}
+use Rattle.rw_reader.specs.Forms.{is_text, Given, a_term, a_formula, a_parameter, Form, gives, takes, a_number, more_of, many}
+use Rattle.rw_reader.specs.Phrases.{formula, term, mark, sort, name_form, name_in, names, constant_form, constants, frame, bracketed, spec, kid_form, kid_in, kids, place, place_at, term_form, term_in, terms, closed_terms, formula_form, formula_in, formulas, left_side, right_side, parameter, parameter_form, parameter_in, parameters, closed_parameters, some_parameters}
 use Rattle.rw_reader.specs.Reading.{ends_value}
 use Rattle.rw_reader.proofs.Grammar.{text_is, starts, Keeps, keeps_followed}
 
@@ -99,3 +100,55 @@ values_keep P F item sep k m d e h i =
     keeps_followed item (λ g. more_of item sep (g ∷ []) k) (λ g. Unit {0}) P ends_value F
     (λ g t s. separated sep F (k (g ∷ [])) t (is_text sep t) m refl s (d (g ∷ []) t))
     (λ g. (ends_value, m, d, e, i, h)) i
+
+term_item_keeps : (most : ℕ) → Keeps (λ g. Unit {0}) ends_value (term_form most)
+unfolding term_form
+term_item_keeps most = term_keeps (λ g. Unit {0}) ends_value most (λ t. gives (a_term t)) (λ t u s. s) (λ t. tt)
+
+pub terms_keep : (P : Given → Type 0) (F : Token → Bool) (most : ℕ) (k : List Term → Form) → ((ts : List Term) (t : Token) → starts (k ts) F t ≡ true → ends_value t ≡ true) → ((ts : List Term) → starts (k ts) F (text (codes ",")) ≡ false) → ((ts : List Term) → Keeps P F (k ts)) → Keeps P F (terms most k)
+unfolding terms
+terms_keep P F most k d e h = values_keep P F (term_form most) (codes ",") (λ gs. k (map term_in gs)) comma_ends (λ gs t. d (map term_in gs) t) (λ gs. e (map term_in gs)) (λ gs. h (map term_in gs)) (term_item_keeps most)
+
+pub bracket_ends : ends_value (text (codes ")")) ≡ true
+unfolding mark_texts text_class class_of
+bracket_ends = refl
+
+pub closed_terms_keep : (P : Given → Type 0) (F : Token → Bool) (k : List Term → Form) → ((ts : List Term) → Keeps P F (k ts)) → Keeps P F (closed_terms k)
+unfolding closed_terms terms term_form term mark_texts text_class class_of
+closed_terms_keep P F k h = (refl, h [], terms_keep P F 511 (λ ts. mark (codes ")") (k ts)) (λ ts t. mark_ends F (codes ")") (k ts) t bracket_ends) (λ ts. refl) (λ ts. (refl, λ x. h ts)))
+
+formula_item_keeps : (most : ℕ) → Keeps (λ g. Unit {0}) ends_value (formula_form most)
+unfolding formula_form
+formula_item_keeps most = formula_keeps (λ g. Unit {0}) ends_value most (λ f. gives (a_formula f)) (λ f u s. s) (λ f. tt)
+
+pub formulas_keep : (P : Given → Type 0) (F : Token → Bool) (most : ℕ) (sep : List ℕ) (k : List Formula → Form) → ends_value (text sep) ≡ true → ((fs : List Formula) (t : Token) → starts (k fs) F t ≡ true → ends_value t ≡ true) → ((fs : List Formula) → starts (k fs) F (text sep) ≡ false) → ((fs : List Formula) → Keeps P F (k fs)) → Keeps P F (formulas most sep k)
+unfolding formulas
+formulas_keep P F most sep k m d e h = values_keep P F (formula_form most) sep (λ gs. k (map formula_in gs)) m (λ gs t. d (map formula_in gs) t) (λ gs. e (map formula_in gs)) (λ gs. h (map formula_in gs)) (formula_item_keeps most)
+
+turnstile_ends : ends_value (text (codes "|-")) ≡ true
+unfolding mark_texts text_class class_of is_name is_reserved reserved Rattle.rw_reader.specs.Classes.name_class
+turnstile_ends = refl
+
+pub left_side_keeps : (P : Given → Type 0) (F : Token → Bool) (k : List Formula → Form) → ((fs : List Formula) → Keeps P F (k fs)) → Keeps P F (left_side k)
+unfolding left_side formulas formula_form formula mark_texts text_class class_of is_name is_reserved reserved Rattle.rw_reader.specs.Classes.name_class
+left_side_keeps P F k h = (refl, h [], formulas_keep P F 512 (codes ",") (λ fs. mark (codes "|-") (k fs)) comma_ends (λ fs t. mark_ends F (codes "|-") (k fs) t turnstile_ends) (λ fs. refl) (λ fs. (refl, λ x. h fs)))
+
+-- what nothing follows
+pub right_side_keeps : (P : Given → Type 0) (F : Token → Bool) (make : List Formula → Given) → ((t : Token) → F t ≡ false) → ((fs : List Formula) → P (make fs)) → Keeps P F (right_side (λ fs. gives (make fs)))
+unfolding right_side formulas formula_form formula run_within
+right_side_keeps P F make n h = ((λ t s. n t), refl, formulas_keep P F 512 (codes ",") (λ fs. gives (make fs)) comma_ends (λ fs t s. absurd (true≢false (sym s ∙ n t))) (λ fs. n (text (codes ","))) h, h [])
+
+parameter_keeps : (P : Given → Type 0) (F : Token → Bool) (k : Named → Form) → ((p : Named) → Keeps P F (k p)) → Keeps P F (parameter k)
+unfolding parameter
+parameter_keeps P F k h = (refl, λ x. (refl, λ y. sort_keeps P F (λ s. k (x, s)) (λ s. h (x, s))))
+
+pub closed_parameters_keep : (P : Given → Type 0) (F : Token → Bool) (k : List Named → Form) → ((ps : List Named) → Keeps P F (k ps)) → Keeps P F (closed_parameters k)
+unfolding closed_parameters parameters parameter_form
+closed_parameters_keep P F k h =
+    keeps_followed (parameter (λ p. gives (a_parameter p))) (λ g. more_of (parameter (λ p. gives (a_parameter p))) (codes ",") (g ∷ []) (λ gs. mark (codes ")") (k (map parameter_in gs)))) (λ g. Unit {0}) P (λ t. true) F (λ g t s. refl)
+    (λ g. ((λ t. true), refl, (λ gs t z. refl), (λ gs. refl), parameter_keeps (λ g. Unit {0}) (λ t. true) (λ p. gives (a_parameter p)) (λ p. tt), (λ gs. (refl, λ x. h (map parameter_in gs)))))
+    (parameter_keeps (λ g. Unit {0}) (λ t. true) (λ p. gives (a_parameter p)) (λ p. tt))
+
+pub some_parameters_keep : (P : Given → Type 0) (F : Token → Bool) (k : List Named → Form) → ((ps : List Named) → Keeps P F (k ps)) → Keeps P F (some_parameters k)
+unfolding some_parameters closed_parameters parameters parameter_form parameter Rattle.rw_reader.specs.Forms.is_variable is_name is_reserved reserved
+some_parameters_keep P F k h = (refl, h [], closed_parameters_keep P F k h)

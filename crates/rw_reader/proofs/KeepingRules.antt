@@ -7,12 +7,12 @@ use Rattle.rw_arith.specs.declared.line.LinLine.TheVariants as sums
 use Rattle.rw_sequents.specs.declared.line.CertLine.{CertLine}
 use Rattle.rw_sequents.specs.declared.line.CertLine.TheVariants as lines
 use Rattle.rw_reader.specs.Tokens.{Token, text}
-use Rattle.rw_reader.specs.Forms.{Given, a_line, a_part, a_sum, Form, gives, takes, either, a_number, more_of}
-use Rattle.rw_reader.specs.Phrases.{mark, formula, term}
-use Rattle.rw_reader.specs.Certificates.{numbered, numbered_rules, later_rules, number_and_term, number_and_name, two_numbers, two_terms, put_same, put_other, axioms, instances, any_number, times, sum_part, part_form, part_in, sum_of, sum_or_quotient, lin_line, closed_line, closed_lines, lin_form, lin_in, lin, rule, line_form, line_in, cert}
+use Rattle.rw_reader.specs.Forms.{Given, a_line, a_sum, Form, gives, takes, either, a_number, more_of}
+use Rattle.rw_reader.specs.Phrases.{mark, term}
+use Rattle.rw_reader.specs.Certificates.{numbered, numbered_rules, later_rules, number_and_term, number_and_name, two_numbers, two_terms, put_same, put_other, axioms, instances, any_number, times, sum_part, part_form, part_in, sum_of, sum_or_quotient, lin_line, closed_line, closed_lines, lin_form, lin_in, lin, lemma, rule, line_form, line_in, cert}
 use Rattle.rw_reader.specs.Reading.{ends_value}
 use Rattle.rw_reader.proofs.Grammar.{starts, Keeps}
-use Rattle.rw_reader.proofs.Keeping.{mark_ends, comma_ends, semicolon_ends, formula_keeps, term_keeps, values_keep}
+use Rattle.rw_reader.proofs.Keeping.{mark_ends, comma_ends, semicolon_ends, formula_keeps, term_keeps, values_keep, closed_terms_keep}
 
 -- what follows a part that ends with a value ends it
 abbrev Ends : {A : Type 0} → (Token → Bool) → (A → Form) → Type 0
@@ -28,7 +28,7 @@ later_keep : (P : Given → Type 0) (F : Token → Bool) (k : CertLine → Form)
 unfolding later_rules
 later_keep P F k h =
     let n = numbered_by P F k h in
-    (refl, n lines.OrL, (refl, n lines.OrR, (refl, n lines.ImpL, (refl, n lines.ImpR, (refl, n lines.EqR, (refl, λ x. n lines.Flip))))))
+    (refl, n lines.OrL, (refl, n lines.OrR, (refl, n lines.ImpL, (refl, n lines.ImpR, (refl, n lines.EqR, (refl, n lines.Flip, (refl, n lines.UnfoldL, (refl, λ x. n lines.UnfoldR))))))))
 
 numbered_keep : (P : Given → Type 0) (F : Token → Bool) (k : CertLine → Form) → All P F k → Keeps P F (numbered k)
 unfolding numbered numbered_rules later_rules
@@ -148,6 +148,10 @@ lin_keeps P F k e h = (
       (λ g. ((λ t. true), refl, (λ gs t z. refl), (λ gs. e (map lin_in gs)), lin_form_keeps, (λ gs. h (map lin_in gs)))) lin_form_keeps,
 )
 
+lemma_keeps : (P : Given → Type 0) (F : Token → Bool) (k : CertLine → Form) → All P F k → Keeps P F (lemma k)
+unfolding lemma
+lemma_keeps P F k h = (refl, λ n. (refl, λ x. closed_terms_keep P F (λ ts. k (lines.Lemma n ts)) (λ ts. h (lines.Lemma n ts))))
+
 rule_keeps : (P : Given → Type 0) (F : Token → Bool) (k : CertLine → Form) → Ends F k → ((l : CertLine) → starts (k l) F (text (codes "[")) ≡ false) → All P F k → Keeps P F (rule k)
 unfolding rule instances axioms numbered numbered_rules later_rules
 rule_keeps P F k e s h = (
@@ -165,7 +169,11 @@ rule_keeps P F k e s h = (
         (
           refl,
           formula_keeps P F 512 (λ f. k (lines.Cut f)) (λ f t. e (lines.Cut f) t) (λ f. h (lines.Cut f)),
-          (refl, lin_keeps P F (λ ls. k (lines.Lin ls)) (λ ls. s (lines.Lin ls)) (λ ls. h (lines.Lin ls)), instances_keep P F k e h),
+          (
+            refl,
+            lin_keeps P F (λ ls. k (lines.Lin ls)) (λ ls. s (lines.Lin ls)) (λ ls. h (lines.Lin ls)),
+            (refl, lemma_keeps P F k h, instances_keep P F k e h),
+          ),
         ),
       ),
     ),

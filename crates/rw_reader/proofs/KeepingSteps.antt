@@ -1,5 +1,5 @@
 -- The forms of steps keep their choices apart.
-use Rattle.std.proofs.Common.{◌≡◌, ℕ, Bool, true, false, List, [], ◌∷◌, map, refl}
+use Rattle.std.proofs.Common.{◌≡◌, ℕ, Bool, true, false, List, refl}
 use Rattle.std.specs.Prelude.{codes}
 use Rattle.rw_terms.specs.Names.{is_name, is_reserved, reserved}
 use Rattle.rw_terms.specs.declared.term.Term.{Term}
@@ -12,12 +12,12 @@ use Rattle.rw_nodes.specs.declared.edit.Step.{Step}
 use Rattle.rw_nodes.specs.declared.edit.Step.TheVariants as steps
 use Rattle.rw_reader.specs.Tokens.{Token, text}
 use Rattle.rw_reader.specs.Classes.{mark_texts, text_class, class_of}
-use Rattle.rw_reader.specs.Forms.{Given, Form, gives, takes, either}
-use Rattle.rw_reader.specs.Phrases.{mark, sort, formula, term, names}
-use Rattle.rw_reader.specs.Steps.{term_form, term_in, terms, guard_form, guard_in, guards, assignment, iteration, block, loop_step, constants_and_formula, pinned, constant_step, named_step, step}
+use Rattle.rw_reader.specs.Forms.{Given, Form}
+use Rattle.rw_reader.specs.Phrases.{mark, formula, terms, formulas}
+use Rattle.rw_reader.specs.Steps.{assignment, iteration, block, loop_step, constants_and_formula, pinned, constant_step, named_step, step}
 use Rattle.rw_reader.specs.Reading.{ends_value}
 use Rattle.rw_reader.proofs.Grammar.{starts, Keeps}
-use Rattle.rw_reader.proofs.Keeping.{mark_ends, comma_ends, semicolon_ends, sort_keeps, formula_keeps, term_keeps, names_keep, constants_keep, values_keep}
+use Rattle.rw_reader.proofs.Keeping.{mark_ends, semicolon_ends, sort_keeps, formula_keeps, term_keeps, names_keep, constants_keep, terms_keep, formulas_keep}
 
 -- what follows a part that ends with a value ends it
 abbrev Ends : {A : Type 0} → (Token → Bool) → (A → Form) → Type 0
@@ -34,30 +34,17 @@ bar_ends : ends_value (text (codes "|")) ≡ true
 unfolding mark_texts text_class class_of is_name is_reserved reserved Rattle.rw_reader.specs.Classes.name_class
 bar_ends = refl
 
-term_item_keeps : Keeps (λ g. Unit {0}) ends_value term_form
-unfolding term_form
-term_item_keeps = term_keeps (λ g. Unit {0}) ends_value 512 (λ t. gives (Rattle.rw_reader.specs.Forms.a_term t)) (λ t u s. s) (λ t. tt)
-
-terms_keep : (P : Given → Type 0) (F : Token → Bool) (k : List Term → Form) → Ends F k → Without F (text (codes ",")) k → All P F k → Keeps P F (terms k)
-unfolding terms
-terms_keep P F k d e h = values_keep P F term_form (codes ",") (λ gs. k (map term_in gs)) comma_ends (λ gs t. d (map term_in gs) t) (λ gs. e (map term_in gs)) (λ gs. h (map term_in gs)) term_item_keeps
-
-guard_item_keeps : Keeps (λ g. Unit {0}) ends_value guard_form
-unfolding guard_form
-guard_item_keeps = formula_keeps (λ g. Unit {0}) ends_value 511 (λ f. gives (Rattle.rw_reader.specs.Forms.a_formula f)) (λ f u s. s) (λ f. tt)
-
-guards_keep : (P : Given → Type 0) (F : Token → Bool) (k : List Formula → Form) → Ends F k → Without F (text (codes "|")) k → All P F k → Keeps P F (guards k)
-unfolding guards
-guards_keep P F k d e h = values_keep P F guard_form (codes "|") (λ gs. k (map guard_in gs)) bar_ends (λ gs t. d (map guard_in gs) t) (λ gs. e (map guard_in gs)) (λ gs. h (map guard_in gs)) guard_item_keeps
+guards_keep : (P : Given → Type 0) (F : Token → Bool) (k : List Formula → Form) → Ends F k → Without F (text (codes "|")) k → All P F k → Keeps P F (formulas 511 (codes "|") k)
+guards_keep P F k d e h = formulas_keep P F 511 (codes "|") k bar_ends d e h
 
 assignment_keeps : (P : Given → Type 0) (F : Token → Bool) (k : List (List ℕ) × List Term → Form) → Ends F k → Without F (text (codes ",")) k → All P F k → Keeps P F (assignment k)
 unfolding assignment
-assignment_keeps P F k d e h = names_keep P F (λ xs. mark (codes ":=") (terms (λ ts. k (xs, ts)))) (λ xs. refl) (λ xs. (refl, λ x. terms_keep P F (λ ts. k (xs, ts)) (λ ts. d (xs, ts)) (λ ts. e (xs, ts)) (λ ts. h (xs, ts))))
+assignment_keeps P F k d e h = names_keep P F (λ xs. mark (codes ":=") (terms 512 (λ ts. k (xs, ts)))) (λ xs. refl) (λ xs. (refl, λ x. terms_keep P F 512 (λ ts. k (xs, ts)) (λ ts. d (xs, ts)) (λ ts. e (xs, ts)) (λ ts. h (xs, ts))))
 
 iteration_keeps : (P : Given → Type 0) (F : Token → Bool) (k : LoopStep → Form) → Ends F k → Without F (text (codes "|")) k → All P F k → Keeps P F (iteration k)
 unfolding iteration
 iteration_keeps P F k d e h =
-    term_keeps P F 511 (λ v. mark (codes ";") (guards (λ gs. k (loops.Do v gs)))) (λ v t. mark_ends F (codes ";") (guards (λ gs. k (loops.Do v gs))) t semicolon_ends)
+    term_keeps P F 511 (λ v. mark (codes ";") (formulas 511 (codes "|") (λ gs. k (loops.Do v gs)))) (λ v t. mark_ends F (codes ";") (formulas 511 (codes "|") (λ gs. k (loops.Do v gs))) t semicolon_ends)
     (λ v. (refl, λ x. guards_keep P F (λ gs. k (loops.Do v gs)) (λ gs. d (loops.Do v gs)) (λ gs. e (loops.Do v gs)) (λ gs. h (loops.Do v gs))))
 
 block_keeps : (P : Given → Type 0) (F : Token → Bool) (k : LoopStep → Form) → All P F k → Keeps P F (block k)

@@ -1,6 +1,8 @@
 -- Requests that are made of equal parts.
 use Rattle.std.proofs.Common.{◌≡◌, ◌∙◌, ℕ, List, sym, ap}
 use Rattle.rw_terms.specs.declared.term.Formula.{Formula}
+use Rattle.rw_terms.specs.Named.{Named}
+use Rattle.rw_goals.specs.declared.library.Lemma.{Lemma}
 use Rattle.rw_programs.specs.declared.prog.Spec.{Spec}
 use Rattle.rw_nodes.specs.declared.edit.Place.{Place}
 use Rattle.rw_nodes.specs.declared.edit.Step.{Step}
@@ -17,3 +19,9 @@ made_step p s r e = ap (λ x. whole (a_request (requests.Edit (edits.Step p x)))
 
 pub made_spec : (xs : List (List ℕ)) (f g pre post : Formula) (s : Spec) → pre ≡ f → post ≡ g → s ≡ record { frame = xs; pre = pre; post = post } → record { frame = xs; pre = f; post = g } ≡ s
 made_spec xs f g pre post s a b e = ap (λ x. record { frame = xs; pre = x; post = g }) (sym a) ∙ ap (λ x. record { frame = xs; pre = pre; post = x }) (sym b) ∙ sym e
+
+pub made_definition : (p : List ℕ) (ps : List Named) (f g : Formula) → g ≡ f → whole (a_request (requests.Edit (edits.Define (record { name = p; params = ps; body = f })))) ≡ whole (a_request (requests.Edit (edits.Define (record { name = p; params = ps; body = g }))))
+made_definition p ps f g e = ap (λ x. whole (a_request (requests.Edit (edits.Define (record { name = p; params = ps; body = x }))))) (sym e)
+
+pub made_lemma : (l m : Lemma) → m ≡ l → whole (a_request (requests.Edit (edits.Lemma l))) ≡ whole (a_request (requests.Edit (edits.Lemma m)))
+made_lemma l m e = ap (λ x. whole (a_request (requests.Edit (edits.Lemma x)))) (sym e)

@@ -6,10 +6,10 @@ use Rattle.std.proofs.lemmas.List.{drop_all}
 use Rattle.rw_reader.specs.declared.request.ReadError.{ReadError}
 use Rattle.rw_reader.specs.declared.request.ReadError.TheVariants.{Syntax}
 use Rattle.rw_reader.specs.Tokens.{Token, token_at}
-use Rattle.rw_reader.specs.Forms.{Slot, Filled, filled, is_text, is_lower, is_variable, is_constant, Given, Form, gives, takes, either}
-use Rattle.rw_reader.specs.Reading.{after, Ending, whole, stops, ended, token_read, read_within, read_form}
-use Rattle.rw_reader.proofs.Endings.{same_token, open_form, one_token, stuck_form, alike}
-use Rattle.rw_reader.specs.Progress.{IsPlace, StopsAt, Took}
+use Rattle.rw_reader.specs.Forms.{Slot, Filled, filled, is_text, is_lower, is_variable, is_constant, Given, Form, gives, takes, either, one_of}
+use Rattle.rw_reader.specs.Reading.{first_of, after, Ending, whole, stops, ended, form_read, token_read, read_within, read_form}
+use Rattle.rw_reader.proofs.Endings.{same_token, none_at_end, open_form, one_token, stuck_form, alike}
+use Rattle.rw_reader.specs.Progress.{IsPlace, StopsAt, Took, TookLast}
 
 pub none_stops : (s : Slot) (here : List ℕ) → token_at here ≡ None → (k : Filled s → Form) → read_form (takes s k) here ≡ stops here
 none_stops s here e k = stuck_form (takes s k) here (λ z. refl) (λ t there z. absurd (cc (e, z)))
@@ -106,3 +106,28 @@ passed_on part other line at mid next (Err x) e t = λ k. carried line x (e k) (
 -- what is given is told by another name
 pub told_as : {A : Type 0} (here there : List ℕ) (f : Form) (k : A → Form) (x y : A) → x ≡ y → read_form f here ≡ read_form (k x) there → read_form f here ≡ read_form (k y) there
 told_as here there f k x y e p = p ∙ ap (λ z. read_form (k z) there) e
+
+-- where a text ends only the second of two forms can be
+pub last_end : (f : Form) (v : Given) (line : List ℕ) (at : ℕ) → length line ≤ at → read_form (one_of f (gives v)) (drop at line) ≡ read_form (gives v) (drop at line)
+last_end f v line at h = alike (one_of f (gives v)) (gives v) (drop at line) refl (λ t there z. absurd (none_at_end (drop at line) t there (drop_all at line h) z))
+
+first_alone : (o : Option Form) → first_of o None ≡ o
+first_alone None = refl
+first_alone (Some f) = refl
+
+-- and before that end only the first, where the second is of no tokens
+pub last_part : (f : Form) (v : Given) (line : List ℕ) (at : ℕ) → at < length line → read_form (one_of f (gives v)) (drop at line) ≡ read_form f (drop at line)
+last_part f v line at h = open_form (one_of f (gives v)) (drop at line) ∙ by_token (token_at (drop at line)) ∙ sym (open_form f (drop at line))
+  where
+    not_empty : (l : List ℕ) → 0 < length l → ended (one_of f (gives v)) l ≡ ended f l
+    not_empty [] n = absurd (omega arith)
+    not_empty (b ∷ bs) n = refl
+
+    by_token : (o : Option (Token × List ℕ)) → token_read (one_of f (gives v)) (drop at line) (read_within (length (drop at line))) o ≡ token_read f (drop at line) (read_within (length (drop at line))) o
+    by_token None = not_empty (drop at line) (rest_of_line line at h)
+    by_token (Some p) = ap (form_read (drop at line) (λ g. read_within (length (drop at line)) g p.1)) (first_alone (after f p.0))
+
+-- the last part is read as another one is
+pub last_on : {A : Type 0} (part other : (A → Form) → Form) (line : List ℕ) (at mid next : ℕ) (r : Result A ReadError) → ((k : A → Given) → read_form (part (λ y. gives (k y))) (drop at line) ≡ read_form (other (λ y. gives (k y))) (drop mid line)) → Took other line mid next r → TookLast part line at next r
+last_on part other line at mid next (Ok x) e t = (t.0, λ k. e k ∙ t.1 (λ y. gives (k y)))
+last_on part other line at mid next (Err x) e t = λ k. carried line x (e k) (t (λ y. gives (k y)))

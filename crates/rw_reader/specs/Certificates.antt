@@ -1,7 +1,6 @@
 -- The grammar of certificates.
 use Rattle.std.specs.Prelude.{ℕ, Bool, true, false, cond, leb, ℤ, pos, neg_ℤ, List, [], ◌∷◌, map, codes}
 use Rattle.rw_terms.specs.declared.term.Term.{Term}
-use Rattle.rw_arith.specs.declared.line.Ref.{Ref}
 use Rattle.rw_arith.specs.declared.line.Ref.TheVariants as refs
 use Rattle.rw_arith.specs.declared.line.Part.{Part as SumPart}
 use Rattle.rw_arith.specs.declared.line.LinLine.{LinLine}
@@ -10,8 +9,8 @@ use Rattle.rw_sequents.specs.declared.line.CertLine.{CertLine}
 use Rattle.rw_sequents.specs.declared.line.CertLine.TheVariants as lines
 use Rattle.rw_reader.specs.declared.certificate.FormulaRule.{FormulaRule}
 use Rattle.rw_reader.specs.declared.certificate.FormulaRule.TheVariants as rules
-use Rattle.rw_reader.specs.Forms.{a_variable, a_number, a_reference, Given, a_line, a_part, a_sum, Form, gives, takes, either, more_of, many}
-use Rattle.rw_reader.specs.Phrases.{mark, formula, term}
+use Rattle.rw_reader.specs.Forms.{a_variable, any_name, a_number, a_reference, Given, a_cert, a_line, a_part, a_sum, Form, gives, takes, either, more_of, many}
+use Rattle.rw_reader.specs.Phrases.{mark, formula, term, closed_terms}
 
 -- the number of a formula
 abbrev pub formula_number : (ℕ → Form) → Form
@@ -31,12 +30,14 @@ with_number rules.ImpL n = lines.ImpL n
 with_number rules.ImpR n = lines.ImpR n
 with_number rules.EqR n = lines.EqR n
 with_number rules.Flip n = lines.Flip n
+with_number rules.UnfoldL n = lines.UnfoldL n
+with_number rules.UnfoldR n = lines.UnfoldR n
 
 -- the last of the rules that name a formula
 unfoldable pub later_rules : (FormulaRule → Form) → Form
 later_rules k =
     either (codes "orL") (k rules.OrL) (either (codes "orR") (k rules.OrR) (either (codes "impL") (k rules.ImpL) (either (codes "impR") (k rules.ImpR)
-    (either (codes "eqR") (k rules.EqR) (mark (codes "flip") (k rules.Flip))))))
+    (either (codes "eqR") (k rules.EqR) (either (codes "flip") (k rules.Flip) (either (codes "unfoldL") (k rules.UnfoldL) (mark (codes "unfoldR") (k rules.UnfoldR))))))))
 
 -- the rules that name a formula
 unfoldable pub numbered_rules : (FormulaRule → Form) → Form
@@ -142,11 +143,15 @@ closed_lines k = many lin_form (codes "[") (λ gs. k (map lin_in gs))
 unfoldable pub lin : (List LinLine → Form) → Form
 lin k = mark (codes "[") (closed_lines k)
 
+-- NAME ( [ TERMS ] )
+unfoldable pub lemma : (CertLine → Form) → Form
+lemma k = takes any_name (λ n. mark (codes "(") (closed_terms (λ ts. k (lines.Lemma n ts))))
+
 -- a rule and its arguments
 unfoldable pub rule : (CertLine → Form) → Form
 rule k =
     either (codes "ax") (k lines.Ax) (either (codes "falseL") (k lines.FalseL) (either (codes "trueR") (k lines.TrueR) (either (codes "refl") (k lines.Refl)
-    (either (codes "cut") (formula 512 (λ f. k (lines.Cut f))) (either (codes "lin") (lin (λ ls. k (lines.Lin ls))) (instances k))))))
+    (either (codes "cut") (formula 512 (λ f. k (lines.Cut f))) (either (codes "lin") (lin (λ ls. k (lines.Lin ls))) (either (codes "lemma") (lemma k) (instances k)))))))
 
 -- a line of a certificate as an item
 unfoldable pub line_form : Form
@@ -159,3 +164,7 @@ line_in _ = lines.Ax
 -- LINE { ; LINE }
 unfoldable pub cert : (List CertLine → Form) → Form
 cert k = many line_form (codes ";") (λ gs. k (map line_in gs))
+
+-- a certificate and nothing behind it
+unfoldable pub cert_form : Form
+cert_form = cert (λ ls. gives (a_cert (record { lines = ls })))

@@ -8,7 +8,9 @@ use Rattle.rw_arith.specs.declared.line.Ref.{Ref}
 use Rattle.rw_arith.specs.declared.line.Ref.TheVariants as refs
 use Rattle.rw_arith.specs.declared.line.Part.{Part as SumPart}
 use Rattle.rw_arith.specs.declared.line.LinLine.{LinLine}
+use Rattle.rw_terms.specs.Named.{Named}
 use Rattle.rw_sequents.specs.declared.line.CertLine.{CertLine}
+use Rattle.rw_sequents.specs.declared.line.Cert.{Cert}
 use Rattle.rw_syntax.specs.declared.token.Token.{Token as Class}
 use Rattle.rw_syntax.specs.declared.frame.Part.{Part}
 use Rattle.rw_syntax.specs.Grammar.{Tree, level, fits, IsFormed, part, nests, text as tree_text}
@@ -25,6 +27,8 @@ pub data Slot : Type 0 where
   a_variable : Slot
   -- a name that begins with an upper-case letter
   a_constant : Slot
+  -- a name, whatever it begins with
+  any_name : Slot
   -- a number from the one to the other
   a_number : ℕ → ℕ → Slot
   -- `L` or `R` and the number of a formula, as one word, or the number of a line
@@ -35,6 +39,7 @@ abbrev pub Filled : Slot → Type 0
 Filled (exactly w) = Unit {0}
 Filled a_variable = List ℕ
 Filled a_constant = List ℕ
+Filled any_name = List ℕ
 Filled (a_number least most) = ℕ
 Filled a_reference = Ref
 
@@ -66,6 +71,11 @@ constant_of (text w) = cond (is_constant w) (Some w) None
 constant_of (number n) = None
 constant_of (binder n) = None
 
+abbrev pub name_of : Token → Option (List ℕ)
+name_of (text w) = cond (is_name w) (Some w) None
+name_of (number n) = None
+name_of (binder n) = None
+
 abbrev pub number_within : ℕ → ℕ → Token → Option ℕ
 number_within least most (text w) = None
 number_within least most (number n) = cond (leb least n && leb n most) (Some n) None
@@ -95,13 +105,16 @@ abbrev pub filled : (s : Slot) → Token → Option (Filled s)
 filled (exactly w) t = cond (is_text w t) (Some tt) None
 filled a_variable t = variable_of t
 filled a_constant t = constant_of t
+filled any_name t = name_of t
 filled (a_number least most) t = number_within least most t
 filled a_reference t = reference_of t
 
--- what a form gives: a request, or an item of a list
+-- what a form gives: a request, a certificate, or an item of a list
 pub data Given : Type 0 where
   a_request : Request → Given
+  a_cert : Cert → Given
   a_name : List ℕ → Given
+  a_parameter : Named → Given
   a_kid : ℕ → Given
   a_term : Term → Given
   a_formula : Formula → Given
@@ -123,6 +136,8 @@ pub data Form : Type 0 where
   -- The rest of a list behind its items so far: items of a form, each behind this word or symbol, and what is to
   -- follow the list.
   more_of : Form → List ℕ → List Given → (List Given → Form) → Form
+  -- a form that cannot be of no tokens, or else another one
+  one_of : Form → Form → Form
 
 -- a form, and what is to follow what it gives
 abbrev pub followed : Form → (Given → Form) → Form
@@ -131,6 +146,7 @@ followed (takes s k) j = takes s (λ x. followed (k x) j)
 followed (either w f g) j = either w (followed f j) (followed g j)
 followed (rest_of most goal done k) j = rest_of most goal done (λ v. followed (k v) j)
 followed (more_of item sep done k) j = more_of item sep done (λ gs. followed (k gs) j)
+followed (one_of f g) j = one_of (followed f j) (followed g j)
 
 -- one item or more, with a word or a symbol between them
 abbrev pub many : Form → List ℕ → (List Given → Form) → Form
@@ -190,3 +206,4 @@ IsOf (takes s k) n ts v = Follows s (λ x. IsOf (k x)) n ts v
 IsOf (either w f g) n ts v = ((rest : List Token) × (ts ≡ text w ∷ rest) × IsOf f (fewer n) rest v) ⊎ IsOf g n ts v
 IsOf (rest_of most goal done k) n ts v = Spans most goal done (λ w. IsOf (k w)) n ts v
 IsOf (more_of item sep done k) n ts v = Lists (IsOf item) sep (λ gs. IsOf (k (done ++ gs))) n ts v
+IsOf (one_of f g) n ts v = IsOf f n ts v ⊎ IsOf g n ts v

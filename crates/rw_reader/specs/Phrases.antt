@@ -1,14 +1,19 @@
--- The parts that requests are made of: sorts, terms, formulas, names, specifications and places.
-use Rattle.std.specs.Prelude.{ℕ, List, [], ◌∷◌, map, codes}
+-- The parts that requests are made of: sorts, terms, formulas, names, specifications, places, parameters and sequents.
+use Rattle.std.specs.Prelude.{ℕ, List, [], map, codes, pos}
 use Rattle.rw_terms.specs.declared.term.Sort.{Sort}
 use Rattle.rw_terms.specs.declared.term.Sort.TheVariants as sorts
 use Rattle.rw_terms.specs.declared.term.Term.{Term}
+use Rattle.rw_terms.specs.declared.term.Term.TheOpen.{Term-F}
+use Rattle.rw_terms.specs.declared.term.Term.TheViews.{roll-Term}
 use Rattle.rw_terms.specs.declared.term.Formula.{Formula}
+use Rattle.rw_terms.specs.declared.term.Formula.TheOpen.{Formula-F}
+use Rattle.rw_terms.specs.declared.term.Formula.TheViews.{roll-Formula}
+use Rattle.rw_terms.specs.Named.{Named}
 use Rattle.rw_programs.specs.declared.prog.Spec.{Spec}
 use Rattle.rw_nodes.specs.declared.edit.TreeName.TheVariants as trees
 use Rattle.rw_nodes.specs.declared.edit.Place.{Place}
 use Rattle.rw_syntax.specs.Grammar.{as_term, as_formula}
-use Rattle.rw_reader.specs.Forms.{exactly, a_variable, a_constant, a_number, Given, a_request, a_name, a_kid, a_term, a_formula, a_line, a_part, a_sum, Form, gives, takes, either, rest_of, more_of, many}
+use Rattle.rw_reader.specs.Forms.{exactly, a_variable, a_constant, a_number, Given, a_name, a_parameter, a_kid, a_term, a_formula, Form, gives, takes, either, rest_of, more_of, one_of, many}
 
 -- a word or a symbol, and what is to follow it
 abbrev pub mark : List ℕ → Form → Form
@@ -77,3 +82,63 @@ kids k = more_of kid_form (codes "/") [] (λ gs. k (place_at (map kid_in gs)))
 -- `main` and the kid numbers
 unfoldable pub place : (Place → Form) → Form
 place k = mark (codes "main") (kids k)
+
+-- a term as an item, whose own nest is within `most`
+unfoldable pub term_form : ℕ → Form
+term_form most = term most (λ t. gives (a_term t))
+
+abbrev pub term_in : Given → Term
+term_in (a_term t) = t
+term_in _ = roll-Term (Term-F.Lit (pos 0))
+
+-- TERM { , TERM }
+unfoldable pub terms : ℕ → (List Term → Form) → Form
+terms most k = many (term_form most) (codes ",") (λ gs. k (map term_in gs))
+
+-- terms and a closing bracket, or that bracket alone
+unfoldable pub closed_terms : (List Term → Form) → Form
+closed_terms k = either (codes ")") (k []) (terms 511 (λ ts. mark (codes ")") (k ts)))
+
+-- a formula as an item, whose own nest is within `most`
+unfoldable pub formula_form : ℕ → Form
+formula_form most = formula most (λ f. gives (a_formula f))
+
+abbrev pub formula_in : Given → Formula
+formula_in (a_formula f) = f
+formula_in _ = roll-Formula Formula-F.True
+
+-- formulas with this word or symbol between them
+unfoldable pub formulas : ℕ → List ℕ → (List Formula → Form) → Form
+formulas most sep k = many (formula_form most) sep (λ gs. k (map formula_in gs))
+
+-- the formulas before `|-`, if there are some, and it
+unfoldable pub left_side : (List Formula → Form) → Form
+left_side k = either (codes "|-") (k []) (formulas 512 (codes ",") (λ fs. mark (codes "|-") (k fs)))
+
+-- formulas, or none
+unfoldable pub right_side : (List Formula → Form) → Form
+right_side k = one_of (formulas 512 (codes ",") k) (k [])
+
+-- NAME : SORT
+unfoldable pub parameter : (Named → Form) → Form
+parameter k = takes a_variable (λ x. mark (codes ":") (sort (λ s. k (x, s))))
+
+-- a parameter as an item
+unfoldable pub parameter_form : Form
+parameter_form = parameter (λ p. gives (a_parameter p))
+
+abbrev pub parameter_in : Given → Named
+parameter_in (a_parameter p) = p
+parameter_in _ = ([], sorts.Int)
+
+-- NAME : SORT { , NAME : SORT }
+unfoldable pub parameters : (List Named → Form) → Form
+parameters k = many parameter_form (codes ",") (λ gs. k (map parameter_in gs))
+
+-- parameters and a closing bracket
+unfoldable pub closed_parameters : (List Named → Form) → Form
+closed_parameters k = parameters (λ ps. mark (codes ")") (k ps))
+
+-- parameters and a closing bracket, or that bracket alone
+unfoldable pub some_parameters : (List Named → Form) → Form
+some_parameters k = either (codes ")") (k []) (closed_parameters k)

@@ -26,6 +26,11 @@ abbrev pub Took : {A : Type 0} → ((A → Form) → Form) → List ℕ → ℕ 
 Took {A = A} part line at next (Ok x) = IsPlace line next × ((k : A → Form) → read_form (part k) (drop at line) ≡ read_form (k x) (drop next line))
 Took {A = A} part line at next (Err e) = (k : A → Form) → StopsAt line e (read_form (part k) (drop at line))
 
+-- the last part of a form is read up to the next place
+abbrev pub TookLast : {A : Type 0} → ((A → Form) → Form) → List ℕ → ℕ → ℕ → Result A ReadError → Type 0
+TookLast {A = A} part line at next (Ok x) = IsPlace line next × ((k : A → Given) → read_form (part (λ y. gives (k y))) (drop at line) ≡ read_form (gives (k x)) (drop next line))
+TookLast {A = A} part line at next (Err e) = (k : A → Given) → StopsAt line e (read_form (part (λ y. gives (k y))) (drop at line))
+
 -- a choice goes the way of its word where that stands there, else the other
 abbrev pub Chose : List ℕ → List ℕ → ℕ → ℕ → Bool → Type 0
 Chose w line at next b = IsPlace line next × ((f g : Form) → read_form (either w f g) (drop at line) ≡ read_form (cond b f g) (drop next line))

@@ -5,34 +5,56 @@ use Rattle.rw_syntax.specs.declared.frame.Part.{Part}
 use Rattle.rw_syntax.specs.Machine.{run_within, finish}
 use Rattle.rw_syntax.specs.declared.state.State.TheVariants.{Wants as wants}
 use Rattle.rw_syntax.specs.Stops.{stops_at}
+use Rattle.rw_sequents.specs.declared.line.Cert.{Cert}
 use Rattle.rw_reader.specs.declared.request.Request.{Request}
 use Rattle.rw_reader.specs.Tokens.{Token, skip, token_at, LeadsTo}
 use Rattle.rw_reader.specs.Classes.{class_of}
-use Rattle.rw_reader.specs.Forms.{filled, is_text, Given, a_request, Form, gives, takes, either, rest_of, more_of, followed, IsOf}
+use Rattle.rw_reader.specs.Forms.{filled, is_text, Given, a_request, a_cert, Form, gives, takes, either, rest_of, more_of, one_of, followed, IsOf}
+use Rattle.rw_reader.specs.Certificates.{cert_form}
 use Rattle.rw_reader.specs.Requests.{request_form}
+
+-- tokens are of a form and give this, with a nest within 512
+abbrev pub SpellsAs : Form → List Token → Given → Type 0
+SpellsAs f ts v = IsOf f (length ts) ts v
+
+-- some tokens that begin with these are of a form, with a nest within 512 at these
+abbrev pub GoesOnAs : Form → List Token → Type 0
+GoesOnAs f ts = (n : ℕ) × (length ts ≤ n) × (rest : List Token) × (v : Given) × IsOf f n (ts ++ rest) v
+
+-- a text's tokens are of a form and give this
+abbrev pub TextSpellsAs : Form → List ℕ → Given → Type 0
+TextSpellsAs f text v = (ts : List Token) × LeadsTo (skip text) ts [] × SpellsAs f ts v
+
+-- The tokens before the offset can go on. What stands there is no token, or a token with which they cannot go on,
+-- or it is the text's end and they give nothing.
+pub record IsFaultAs (f : Form) (text : List ℕ) (offset : ℕ) : Type 0 where
+  pub before : List Token
+  pub left : List ℕ
+  pub leads : LeadsTo (skip text) before left
+  pub goes : GoesOnAs f before
+  pub stuck : (t : Token) (behind : List ℕ) → token_at left ≡ Some (t, behind) → ¬ (GoesOnAs f (before ++ t ∷ []))
+  pub early : left ≡ [] → (v : Given) → ¬ (SpellsAs f before v)
+  pub place : offset + length left ≡ length text
 
 -- tokens spell a request, with a nest within 512
 abbrev pub Spells : List Token → Request → Type 0
-Spells ts r = IsOf request_form (length ts) ts (a_request r)
-
--- some tokens that begin with these spell a request, with a nest within 512 at these
-abbrev pub CanGoOn : List Token → Type 0
-CanGoOn ts = (n : ℕ) × (length ts ≤ n) × (rest : List Token) × (r : Request) × IsOf request_form n (ts ++ rest) (a_request r)
+Spells ts r = SpellsAs request_form ts (a_request r)
 
 -- a line's tokens spell a request
 abbrev pub LineSpells : List ℕ → Request → Type 0
-LineSpells line r = (ts : List Token) × LeadsTo (skip line) ts [] × Spells ts r
+LineSpells line r = TextSpellsAs request_form line (a_request r)
 
--- The tokens before the offset can go on. What stands there is no token, or a token with which they cannot go on,
--- or it is the line's end and they spell no request.
-pub record IsFault (line : List ℕ) (offset : ℕ) : Type 0 where
-  pub before : List Token
-  pub left : List ℕ
-  pub leads : LeadsTo (skip line) before left
-  pub goes : CanGoOn before
-  pub stuck : (t : Token) (behind : List ℕ) → token_at left ≡ Some (t, behind) → ¬ (CanGoOn (before ++ t ∷ []))
-  pub early : left ≡ [] → (r : Request) → ¬ (Spells before r)
-  pub place : offset + length left ≡ length line
+-- the fault of a line that is no request
+abbrev pub IsFault : List ℕ → ℕ → Type 0
+IsFault = IsFaultAs request_form
+
+-- a text's tokens spell a certificate
+abbrev pub CertSpells : List ℕ → Cert → Type 0
+CertSpells text c = TextSpellsAs cert_form text (a_cert c)
+
+-- the fault of a text that is no certificate
+abbrev pub IsCertFault : List ℕ → ℕ → Type 0
+IsCertFault = IsFaultAs cert_form
 
 -- the value that tokens are
 abbrev pub value_of : ℕ → ℕ → List Class → Option Part
@@ -55,6 +77,11 @@ abbrev pub gone_on : (List Class → Form) → Option Form → Option (List Clas
 gone_on go other None = other
 gone_on go other (Some done) = Some (go done)
 
+-- the first that is there
+abbrev pub first_of : Option Form → Option Form → Option Form
+first_of None o = o
+first_of (Some f) o = Some f
+
 -- what is left of a form behind one token
 abbrev pub after : Form → Token → Option Form
 after (gives g) t = None
@@ -62,6 +89,7 @@ after (takes s k) t = option_map k (filled s t)
 after (either w f g) t = cond (is_text w t) (Some f) (after g t)
 after (rest_of most goal done k) t = gone_on (λ more. rest_of most goal more k) (cond (ends_value t) (option_and_then (λ v. after (k v) t) (value_of most goal done)) None) (option_and_then (one_more most goal done) (class_of t))
 after (more_of item sep done k) t = cond (is_text sep t) (Some (followed item (λ g. more_of item sep (done ++ g ∷ []) k))) (after (k done) t)
+after (one_of f g) t = first_of (after f t) (after g t)
 
 -- what a form gives where the tokens end
 abbrev pub given : Form → Option Given
@@ -70,6 +98,7 @@ given (takes s k) = None
 given (either w f g) = given g
 given (rest_of most goal done k) = option_and_then (λ v. given (k v)) (value_of most goal done)
 given (more_of item sep done k) = given (k done)
+given (one_of f g) = given g
 
 -- how the reading of a form ends
 pub data Ending : Type 0 where

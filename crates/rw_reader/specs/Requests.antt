@@ -1,10 +1,15 @@
 -- The grammar of requests.
-use Rattle.std.specs.Prelude.{◌∷◌, codes}
+use Rattle.std.specs.Prelude.{ℕ, List, codes}
+use Rattle.rw_terms.specs.declared.term.Formula.{Formula}
+use Rattle.rw_terms.specs.Named.{Named}
+use Rattle.rw_terms.specs.Naming.{names_of}
+use Rattle.rw_goals.specs.declared.library.Lemma.{Lemma}
+use Rattle.rw_citations.specs.Goal.{scope_of_parameters}
 use Rattle.rw_nodes.specs.declared.edit.Edit.TheVariants as edits
 use Rattle.rw_reader.specs.declared.request.Request.{Request}
 use Rattle.rw_reader.specs.declared.request.Request.TheVariants as requests
-use Rattle.rw_reader.specs.Forms.{a_variable, a_number, a_request, Form, gives, takes, either}
-use Rattle.rw_reader.specs.Phrases.{mark, sort, spec, kids, place}
+use Rattle.rw_reader.specs.Forms.{a_variable, a_constant, any_name, a_number, a_request, Form, gives, takes, either}
+use Rattle.rw_reader.specs.Phrases.{mark, sort, formula, spec, kids, place, left_side, right_side, closed_parameters, some_parameters}
 use Rattle.rw_reader.specs.Certificates.{cert}
 use Rattle.rw_reader.specs.Steps.{step}
 
@@ -24,13 +29,36 @@ root_form = spec (λ s. asks (requests.Edit (edits.Root s)))
 unfoldable pub step_form : Form
 step_form = place (λ p. either (codes "open") (asks (requests.Edit (edits.Clear p))) (step (λ s. asks (requests.Edit (edits.Step p s)))))
 
--- PLACE NUMBER CERT
+-- PLACE NUMBER CERT, or `lemma` NAME CERT
 unfoldable pub prove_form : Form
-prove_form = place (λ p. takes (a_number 0 4294967295) (λ n. cert (λ ls. asks (requests.Edit (edits.Prove p n (record { lines = ls }))))))
+prove_form =
+    either (codes "lemma") (takes any_name (λ n. cert (λ ls. asks (requests.Edit (edits.ProveLemma n (record { lines = ls }))))))
+    (place (λ p. takes (a_number 0 4294967295) (λ n. cert (λ ls. asks (requests.Edit (edits.Prove p n (record { lines = ls })))))))
 
--- nothing, `all` or PLACE
+-- PREDICATE ( PARAMS ) = FORM
+unfoldable pub define_form : Form
+define_form =
+    takes a_constant (λ p. mark (codes "(") (closed_parameters (λ ps. mark (codes "=") (formula 512 (λ f. asks (requests.Edit (edits.Define (record { name = p; params = ps; body = f }))))))))
+
+-- A lemma of formulas. Its sequent has the parameters that are free in them.
+abbrev pub lemma_of : List ℕ → List Named → List Formula → List Formula → Lemma
+lemma_of n ps left right = record { name = n; params = ps; sequent = record { names = names_of (scope_of_parameters ps) left right; left = left; right = right } }
+
+-- : SEQ
+unfoldable pub statement : List ℕ → List Named → Form
+statement n ps = mark (codes ":") (left_side (λ left. right_side (λ right. asks (requests.Edit (edits.Lemma (lemma_of n ps left right))))))
+
+-- NAME ( [ PARAMS ] ) : SEQ
+unfoldable pub lemma_form : Form
+lemma_form = takes any_name (λ n. mark (codes "(") (some_parameters (statement n)))
+
+-- NAME
+unfoldable pub drop_form : Form
+drop_form = takes any_name (λ n. asks (requests.Edit (edits.Drop n)))
+
+-- nothing, `all`, PLACE or `lemma` NAME
 unfoldable pub status_form : Form
-status_form = either (codes "all") (asks requests.StatusAll) (either (codes "main") (kids (λ p. asks (requests.StatusAt p))) (asks requests.Status))
+status_form = either (codes "all") (asks requests.StatusAll) (either (codes "main") (kids (λ p. asks (requests.StatusAt p))) (either (codes "lemma") (takes any_name (λ n. asks (requests.StatusLemma n))) (asks requests.Status)))
 
 -- PLACE
 unfoldable pub goal_form : Form
@@ -40,4 +68,4 @@ goal_form = place (λ p. asks (requests.Goal p))
 unfoldable pub request_form : Form
 request_form =
     either (codes "var") var_form (either (codes "root") root_form (either (codes "step") step_form (either (codes "prove") prove_form
-    (either (codes "status") status_form (mark (codes "goal") goal_form)))))
+    (either (codes "status") status_form (either (codes "define") define_form (either (codes "lemma") lemma_form (either (codes "drop") drop_form (mark (codes "goal") goal_form))))))))

@@ -1,51 +1,22 @@
 -- The grammar of steps.
-use Rattle.std.specs.Prelude.{ℕ, List, [], ◌∷◌, map, codes, pos}
+use Rattle.std.specs.Prelude.{ℕ, List, codes}
 use Rattle.rw_terms.specs.declared.term.Term.{Term}
-use Rattle.rw_terms.specs.declared.term.Term.TheOpen.{Term-F}
-use Rattle.rw_terms.specs.declared.term.Term.TheViews.{roll-Term}
-use Rattle.rw_terms.specs.declared.term.Formula.{Formula}
-use Rattle.rw_terms.specs.declared.term.Formula.TheOpen.{Formula-F}
-use Rattle.rw_terms.specs.declared.term.Formula.TheViews.{roll-Formula}
 use Rattle.rw_laws.specs.declared.step.BasicStep.{BasicStep}
 use Rattle.rw_laws.specs.declared.step.BasicStep.TheVariants as basic
 use Rattle.rw_loops.specs.declared.step.LoopStep.{LoopStep}
 use Rattle.rw_loops.specs.declared.step.LoopStep.TheVariants as loops
 use Rattle.rw_nodes.specs.declared.edit.Step.{Step}
 use Rattle.rw_nodes.specs.declared.edit.Step.TheVariants as steps
-use Rattle.rw_reader.specs.Forms.{a_variable, a_constant, Given, a_term, a_formula, Form, gives, takes, either, many}
-use Rattle.rw_reader.specs.Phrases.{mark, sort, formula, term, names, constants}
-
--- a term as an item
-unfoldable pub term_form : Form
-term_form = term 512 (λ t. gives (a_term t))
-
-abbrev pub term_in : Given → Term
-term_in (a_term t) = t
-term_in _ = roll-Term (Term-F.Lit (pos 0))
-
--- TERM { , TERM }
-unfoldable pub terms : (List Term → Form) → Form
-terms k = many term_form (codes ",") (λ gs. k (map term_in gs))
-
--- a guard as an item; `if` and `do` count one in its nest
-unfoldable pub guard_form : Form
-guard_form = formula 511 (λ f. gives (a_formula f))
-
-abbrev pub guard_in : Given → Formula
-guard_in (a_formula f) = f
-guard_in _ = roll-Formula Formula-F.True
-
--- FORM { | FORM }
-unfoldable pub guards : (List Formula → Form) → Form
-guards k = many guard_form (codes "|") (λ gs. k (map guard_in gs))
+use Rattle.rw_reader.specs.Forms.{a_variable, a_constant, Form, takes, either}
+use Rattle.rw_reader.specs.Phrases.{mark, sort, formula, term, terms, formulas, names, constants}
 
 -- NAMES := TERMS
 unfoldable pub assignment : (List (List ℕ) × List Term → Form) → Form
-assignment k = names (λ xs. mark (codes ":=") (terms (λ ts. k (xs, ts))))
+assignment k = names (λ xs. mark (codes ":=") (terms 512 (λ ts. k (xs, ts))))
 
--- TERM ; GUARDS, behind `do`
+-- TERM ; GUARDS, behind `do`; `if` and `do` count one in the nest of their parts
 unfoldable pub iteration : (LoopStep → Form) → Form
-iteration k = term 511 (λ v. mark (codes ";") (guards (λ gs. k (loops.Do v gs))))
+iteration k = term 511 (λ v. mark (codes ";") (formulas 511 (codes "|") (λ gs. k (loops.Do v gs))))
 
 -- NAME : SORT, behind `block`
 unfoldable pub block : (LoopStep → Form) → Form
@@ -53,7 +24,7 @@ block k = takes a_variable (λ x. mark (codes ":") (sort (λ s. k (loops.Block x
 
 -- the steps of alternation, iteration and local blocks
 unfoldable pub loop_step : (LoopStep → Form) → Form
-loop_step k = either (codes "if") (guards (λ gs. k (loops.If gs))) (either (codes "do") (iteration k) (mark (codes "block") (block k)))
+loop_step k = either (codes "if") (formulas 511 (codes "|") (λ gs. k (loops.If gs))) (either (codes "do") (iteration k) (mark (codes "block") (block k)))
 
 -- NAMES : FORM, of constants, behind `seqcon`
 unfoldable pub constants_and_formula : (BasicStep → Form) → Form

@@ -1,13 +1,13 @@
 //! Certificates: lines with semicolons between them, each a rule and its arguments.
 
 ghost use Rattle.std.specs.Prelude.{◌≡◌, ◌≤◌};
-ghost use Rattle.rw_reader.specs.Certificates.{rule, instances, axioms, numbered, numbered_rules, later_rules, with_number, number_and_term, number_and_name, two_numbers, two_terms, put_same, put_other, cert};
+ghost use Rattle.rw_reader.specs.Certificates.{rule, lemma, instances, axioms, numbered, numbered_rules, later_rules, with_number, number_and_term, number_and_name, two_numbers, two_terms, put_same, put_other, cert};
 ghost use Rattle.rw_reader.specs.Progress.{IsPlace, Took};
 
 use crate::arithmetic::lin;
 use crate::request::ReadError;
-use crate::taking::{accept, expect, number, variable};
-use crate::value::{formula, term};
+use crate::taking::{accept, any_name, expect, number, variable};
+use crate::value::{closed_terms, formula, term};
 use rw_items::{Boxed, Items};
 use rw_sequents::line::CertLine;
 use rw_terms::name::Name;
@@ -29,6 +29,8 @@ pub enum FormulaRule {
     ImpR,
     EqR,
     Flip,
+    UnfoldL,
+    UnfoldR,
 }
 
 /// Reads lines with semicolons between them.
@@ -72,7 +74,22 @@ fn rule(alloc: Global, line: &[u8], at: &mut usize) -> Result<CertLine, ReadErro
         let lines = lin(alloc, line, at)?;
         return Ok(CertLine::Lin(lines));
     }
+    if accept(line, at, b"lemma") {
+        return lemma(alloc, line, at);
+    }
     instance(alloc, line, at)
+}
+
+// A lemma's name, and the terms for its parameters in brackets.
+fn lemma(alloc: Global, line: &[u8], at: &mut usize) -> Result<CertLine, ReadError>
+    requires { IsPlace line.now at.old }
+    ensures took { Took lemma line.now at.old at.new result }
+    ensures on { at.old ≤ at.new }
+{
+    let name = any_name(line, at)?;
+    expect(line, at, b"(")?;
+    let terms = closed_terms(alloc, line, at)?;
+    Ok(CertLine::Lemma(name, terms))
 }
 
 // A rule of quantifiers or of rewriting, or one of the others.
@@ -236,6 +253,8 @@ fn with_number(rule: FormulaRule, number: u32) -> CertLine
         FormulaRule::ImpR => CertLine::ImpR(number),
         FormulaRule::EqR => CertLine::EqR(number),
         FormulaRule::Flip => CertLine::Flip(number),
+        FormulaRule::UnfoldL => CertLine::UnfoldL(number),
+        FormulaRule::UnfoldR => CertLine::UnfoldR(number),
     }
 }
 
@@ -285,6 +304,12 @@ fn later_rule(line: &[u8], at: &mut usize) -> Result<FormulaRule, ReadError>
     if accept(line, at, b"eqR") {
         return Ok(FormulaRule::EqR);
     }
-    expect(line, at, b"flip")?;
-    Ok(FormulaRule::Flip)
+    if accept(line, at, b"flip") {
+        return Ok(FormulaRule::Flip);
+    }
+    if accept(line, at, b"unfoldL") {
+        return Ok(FormulaRule::UnfoldL);
+    }
+    expect(line, at, b"unfoldR")?;
+    Ok(FormulaRule::UnfoldR)
 }

@@ -3,9 +3,12 @@
 ghost use Rattle.std.specs.Prelude.{◌≡◌, ℕ, ◌≤◌, List, ◌↔◌};
 ghost use Rattle.rw_syntax.specs.declared.frame.Part.{Part};
 ghost use Rattle.rw_reader.specs.declared.request.Request.{Request};
+ghost use Rattle.rw_sequents.specs.declared.line.Cert.{Cert};
+ghost use Rattle.rw_reader.specs.Forms.{a_cert};
+ghost use Rattle.rw_reader.specs.Certificates.{cert_form};
 ghost use Rattle.rw_reader.specs.Tokens.{Token};
 ghost use Rattle.rw_reader.specs.Expressions.{TokensSpell, TextSpells, IsFaultOf};
-ghost use Rattle.rw_reader.specs.Reading.{Spells, LineSpells, IsFault, reading, reads, fault};
+ghost use Rattle.rw_reader.specs.Reading.{SpellsAs, Spells, LineSpells, IsFault, CertSpells, IsCertFault, reading, reads, fault};
 
 /// A line is read as a request exactly where its tokens spell it, and else has its one fault.
 pub fn reading_is_the_grammar()
@@ -28,4 +31,12 @@ pub fn one_value()
 pub fn one_fault()
     ensures apart { (goal : ℕ) (text : List ℕ) (v : Part) (o : ℕ) → TextSpells goal text v → ¬ (IsFaultOf goal text o) }
     ensures one { (goal : ℕ) (text : List ℕ) (o p : ℕ) → IsFaultOf goal text o → IsFaultOf goal text p → o ≡ p }
+{}
+
+/// No tokens and no text spell two certificates. A text that spells one has no fault, and each other text at most one.
+pub fn one_cert()
+    ensures tokens { (ts : List Token) (c d : Cert) → SpellsAs cert_form ts (a_cert c) → SpellsAs cert_form ts (a_cert d) → c ≡ d }
+    ensures texts { (text : List ℕ) (c d : Cert) → CertSpells text c → CertSpells text d → c ≡ d }
+    ensures apart { (text : List ℕ) (c : Cert) (o : ℕ) → CertSpells text c → ¬ (IsCertFault text o) }
+    ensures one { (text : List ℕ) (o p : ℕ) → IsCertFault text o → IsCertFault text p → o ≡ p }
 {}

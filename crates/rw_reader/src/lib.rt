@@ -1,4 +1,4 @@
-//! Reads requests, terms and formulas: exactly the grammar, with the exact offset of a fault.
+//! Reads requests, terms, formulas and certificates: exactly the grammar, with the exact offset of a fault.
 #![tactic(auto)]
 
 mod arithmetic;
@@ -10,9 +10,10 @@ mod reading;
 mod reference;
 pub mod request;
 mod step;
+mod table;
 mod taking;
 pub mod token;
 mod value;
 
 pub use expression::{read_formula, read_term};
-pub use reading::read_request;
+pub use reading::{read_cert, read_request};

@@ -1,15 +1,16 @@
-//! Reads a request.
+//! Reads requests and certificates.
 
 ghost use Rattle.std.specs.Prelude.{◌≡◌, ℕ, ◌<◌, ◌^◌, ◌⊎◌, length, IfOk, IfErr};
 ghost use Rattle.rw_reader.specs.Requests.{var_form, root_form, step_form, prove_form, status_form, goal_form};
-ghost use Rattle.rw_reader.specs.Reading.{reading, reads, fault};
+ghost use Rattle.rw_reader.specs.Reading.{reading, reads, fault, CertSpells, IsCertFault};
 ghost use Rattle.rw_reader.specs.Progress.{IsPlace, Answers};
 ghost use Rattle.rw_reader.specs.declared.request.ReadError.TheVariants as read_error;
 
 use crate::certificate::cert;
 use crate::request::{ReadError, Request};
 use crate::step::step;
-use crate::taking::{accept, end, expect, kids, number, place, sort, variable};
+use crate::table::{read_define, read_drop, read_lemma};
+use crate::taking::{accept, any_name, end, expect, kids, number, place, sort, variable};
 use crate::token::skip;
 use crate::value::spec;
 use rw_items::Boxed;
@@ -41,8 +42,30 @@ pub fn read_request(alloc: Global, line: &[u8]) -> Result<Request, ReadError>
     if accept(line, &mut at, b"status") {
         return read_status(alloc, line, at);
     }
+    if accept(line, &mut at, b"define") {
+        return read_define(alloc, line, at);
+    }
+    if accept(line, &mut at, b"lemma") {
+        return read_lemma(alloc, line, at);
+    }
+    if accept(line, &mut at, b"drop") {
+        return read_drop(line, at);
+    }
     expect(line, &mut at, b"goal")?;
     read_goal(alloc, line, at)
+}
+
+/// Reads a text as a certificate. Its tokens spell that certificate; else the fault is told, where its tokens cannot go
+/// on. A text has fewer than 2^32 bytes, since an offset is a `u32`.
+pub fn read_cert(alloc: Global, text: &[u8]) -> Result<Cert, ReadError>
+    requires { length text.now < 2 ^ 32 }
+    ensures ok { IfOk result (λ c. CertSpells text.now c) }
+    ensures err { IfErr result (λ e. (e ≡ read_error.Memory) ⊎ ((o : ℕ) × (e ≡ read_error.Syntax o) × IsCertFault text.now o)) }
+{
+    let mut at = skip(text, 0);
+    let lines = cert(alloc, text, &mut at)?;
+    end(text, at)?;
+    Ok(Cert { lines })
 }
 
 // `NAME : SORT`
@@ -83,11 +106,17 @@ fn read_step(alloc: Global, line: &[u8], mut at: usize) -> Result<Request, ReadE
     Ok(Request::Edit(Edit::Step(place, made.into_inner())))
 }
 
-// `PLACE NUMBER CERT`
+// `PLACE NUMBER CERT`, or `lemma NAME CERT`
 fn read_prove(alloc: Global, line: &[u8], mut at: usize) -> Result<Request, ReadError>
     requires { IsPlace line.now at }
     ensures { Answers prove_form line.now at result }
 {
+    if accept(line, &mut at, b"lemma") {
+        let name = any_name(line, &mut at)?;
+        let lines = cert(alloc, line, &mut at)?;
+        end(line, at)?;
+        return Ok(Request::Edit(Edit::ProveLemma(name, Cert { lines })));
+    }
     let place = place(alloc, line, &mut at)?;
     let number = number(line, &mut at, 0, 4294967295)?;
     let lines = cert(alloc, line, &mut at)?;
@@ -95,7 +124,7 @@ fn read_prove(alloc: Global, line: &[u8], mut at: usize) -> Result<Request, Read
     Ok(Request::Edit(Edit::Prove(place, number, Cert { lines })))
 }
 
-// Nothing, `all` or `PLACE`
+// Nothing, `all`, `PLACE` or `lemma NAME`
 fn read_status(alloc: Global, line: &[u8], mut at: usize) -> Result<Request, ReadError>
     requires { IsPlace line.now at }
     ensures { Answers status_form line.now at result }
@@ -108,6 +137,11 @@ fn read_status(alloc: Global, line: &[u8], mut at: usize) -> Result<Request, Rea
         let place = kids(alloc, line, &mut at)?;
         end(line, at)?;
         return Ok(Request::StatusAt(place));
+    }
+    if accept(line, &mut at, b"lemma") {
+        let name = any_name(line, &mut at)?;
+        end(line, at)?;
+        return Ok(Request::StatusLemma(name));
     }
     end(line, at)?;
     Ok(Request::Status)
@@ -174,6 +208,36 @@ mod tests {
                 (b"prove main 4294967296 ax", Some(11)),
                 (b"prove main 1", Some(12)),
                 (b"step main", Some(9)),
+                (b"status lemma n", None),
+                (b"status lemma", Some(12)),
+                (b"prove lemma N ax", None),
+                (b"drop x", None),
+                (b"drop X", None),
+                (b"drop", Some(4)),
+            ],
+        )
+    }
+
+    #[test]
+    fn entries_of_the_table_are_read_or_have_their_fault(rt: HostRuntime) -> Result<(), Fail> {
+        agree(
+            &rt,
+            rt.alloc(),
+            &[
+                (b"define P(x:int, a:array 3) = a[x] = 0", None),
+                (b"define p(x:int) = true", Some(7)),
+                (b"define P(X:int) = true", Some(9)),
+                (b"define P() = true", Some(9)),
+                (b"define P(x:int) = x", Some(19)),
+                (b"lemma n(x:int) : 0 <= x, x <= 0 |- x = 0, false", None),
+                (b"lemma N() : |- true", None),
+                (b"lemma N() : true |-", None),
+                (b"lemma N() : |-", None),
+                (b"lemma N : |- true", Some(8)),
+                (b"lemma N() : true", Some(16)),
+                (b"lemma N() : |- true,", Some(20)),
+                (b"lemma N() : |- true |- true", Some(20)),
+                (b"lemma N() : |- ]", Some(15)),
             ],
         )
     }
@@ -292,6 +356,13 @@ mod tests {
                 (b"prove main 1 ax ;", Some(17)),
                 (b"prove main 1 ax , ax", Some(16)),
                 (b"prove main 1 ax ax", Some(16)),
+                (
+                    b"prove main 1 unfoldL 1 ; unfoldR 2 ; lemma N() ; lemma n(x, y + 1)",
+                    None,
+                ),
+                (b"prove main 1 lemma N", Some(20)),
+                (b"prove main 1 lemma N(x,)", Some(23)),
+                (b"prove main 1 unfoldL", Some(20)),
             ],
         )
     }

@@ -4,6 +4,7 @@ ghost use Rattle.std.specs.Prelude.{◌≡◌};
 ghost use Rattle.rw_reader.specs.declared.request.ReadError.TheVariants as read_error;
 
 use rw_nodes::edit::{Edit, Place};
+use rw_terms::name::Name;
 use std::alloc::AllocError;
 use thiserror::Error;
 
@@ -15,7 +16,9 @@ pub enum Request {
     Status,
     /// The status of a node.
     StatusAt(Place),
-    /// The status of each node.
+    /// The status of a lemma.
+    StatusLemma(Name),
+    /// The status of each node and of each lemma.
     StatusAll,
     /// The specification and the obligations of a node.
     Goal(Place),

@@ -1,18 +1,18 @@
 //! Steps.
 
 ghost use Rattle.std.specs.Prelude.{◌≡◌};
-ghost use Rattle.rw_reader.specs.Steps.{step, named_step, constant_step, loop_step, constants_and_formula, pinned, block, iteration, assignment, terms, guards};
+ghost use Rattle.rw_reader.specs.Steps.{step, named_step, constant_step, loop_step, constants_and_formula, pinned, block, iteration, assignment};
 ghost use Rattle.rw_reader.specs.Progress.{IsPlace, Took};
 
 use crate::request::ReadError;
 use crate::taking::{accept, constant, constants, expect, names, sort, variable};
-use crate::value::{formula, term};
+use crate::value::{formula, formulas, term, terms};
 use rw_items::Items;
 use rw_laws::step::BasicStep;
 use rw_loops::step::LoopStep;
 use rw_nodes::edit::Step;
 use rw_terms::name::Name;
-use rw_terms::term::{Formula, Term};
+use rw_terms::term::Term;
 use std::alloc::Global;
 
 /// Reads a step.
@@ -107,7 +107,7 @@ fn loop_step(alloc: Global, line: &[u8], at: &mut usize) -> Result<LoopStep, Rea
     ensures { Took loop_step line.now at.old at.new result }
 {
     if accept(line, at, b"if") {
-        let guards = guards(alloc, line, at)?;
+        let guards = formulas(alloc, 511, b"|", line, at)?;
         return Ok(LoopStep::If(guards));
     }
     if accept(line, at, b"do") {
@@ -124,7 +124,7 @@ fn iteration(alloc: Global, line: &[u8], at: &mut usize) -> Result<LoopStep, Rea
 {
     let variant = term(alloc, 511, line, at)?;
     expect(line, at, b";")?;
-    let guards = guards(alloc, line, at)?;
+    let guards = formulas(alloc, 511, b"|", line, at)?;
     Ok(LoopStep::Do(variant.into_inner(), guards))
 }
 
@@ -150,36 +150,6 @@ fn assignment(
 {
     let names = names(alloc, line, at)?;
     expect(line, at, b":=")?;
-    let terms = terms(alloc, line, at)?;
+    let terms = terms(alloc, 512, line, at)?;
     Ok((names, terms))
-}
-
-// Terms with commas between them.
-fn terms(alloc: Global, line: &[u8], at: &mut usize) -> Result<Items<Term>, ReadError>
-    requires { IsPlace line.now at.old }
-    ensures { Took terms line.now at.old at.new result }
-{
-    let mut terms = Items::new(alloc);
-    let first = term(alloc, 512, line, at)?;
-    terms.push(first.into_inner())?;
-    'terms: while accept(line, at, b",") {
-        let next = term(alloc, 512, line, at)?;
-        terms.push(next.into_inner())?;
-    }
-    Ok(terms)
-}
-
-// Guards with `|` between them.
-fn guards(alloc: Global, line: &[u8], at: &mut usize) -> Result<Items<Formula>, ReadError>
-    requires { IsPlace line.now at.old }
-    ensures { Took guards line.now at.old at.new result }
-{
-    let mut guards = Items::new(alloc);
-    let first = formula(alloc, 511, line, at)?;
-    guards.push(first.into_inner())?;
-    'guards: while accept(line, at, b"|") {
-        let next = formula(alloc, 511, line, at)?;
-        guards.push(next.into_inner())?;
-    }
-    Ok(guards)
 }

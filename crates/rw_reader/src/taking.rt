@@ -1,7 +1,7 @@
 //! The parts of requests, read from a place on.
 
 ghost use Rattle.std.specs.Prelude.{◌≡◌, ℕ, ◌≤◌, ◌<◌, ◌^◌, length, IfOk, IfSome, IsTrue};
-ghost use Rattle.rw_reader.specs.Forms.{is_text, is_lower, variable_of, constant_of, number_within, takes, exactly, a_variable, a_constant, a_number, a_reference};
+ghost use Rattle.rw_reader.specs.Forms.{is_text, is_lower, variable_of, constant_of, name_of, number_within, takes, exactly, a_variable, a_constant, any_name, a_number, a_reference};
 ghost use Rattle.rw_reader.specs.Phrases.{sort, names, constants, kids, place};
 ghost use Rattle.rw_reader.specs.Certificates.{any_number};
 ghost use Rattle.rw_reader.specs.Seen.{seen};
@@ -99,6 +99,24 @@ pub fn constant(line: &[u8], at: &mut usize) -> Result<Name, ReadError>
     }
 }
 
+/// Reads a name, whatever it begins with.
+pub fn any_name(line: &[u8], at: &mut usize) -> Result<Name, ReadError>
+    requires { IsPlace line.now at.old }
+    ensures took { Took (takes any_name) line.now at.old at.new result }
+    ensures on { at.old ≤ at.new }
+{
+    match token_at(line, *at) {
+        Some((token, next)) => match name_of(token) {
+            Some(name) => {
+                *at = next;
+                Ok(name)
+            }
+            None => Err(fault(*at)),
+        },
+        None => Err(fault(*at)),
+    }
+}
+
 /// Reads a number from the one to the other.
 pub fn number(line: &[u8], at: &mut usize, least: u32, most: u32) -> Result<u32, ReadError>
     requires { IsPlace line.now at.old }
@@ -158,7 +176,8 @@ pub fn reference(line: &[u8], at: &mut usize) -> Result<Ref, ReadError>
 /// Reads a sort: `int`, or `array` and a length.
 pub fn sort(line: &[u8], at: &mut usize) -> Result<Sort, ReadError>
     requires { IsPlace line.now at.old }
-    ensures { Took sort line.now at.old at.new result }
+    ensures took { Took sort line.now at.old at.new result }
+    ensures on { at.old ≤ at.new }
 {
     if accept(line, at, b"int") {
         return Ok(Sort::Int);
@@ -286,6 +305,18 @@ fn constant_of(token: Token) -> Option<Name>
     match token {
         Token::Text(text) => match Name::read(text) {
             Ok(name) => { if is_lower(text) { None } else { Some(name) } }
+            Err(_) => None,
+        },
+        Token::Number(_) | Token::Binder(_) => None,
+    }
+}
+
+fn name_of(token: Token) -> Option<Name>
+    ensures { result ≡ name_of (seen token.entry) }
+{
+    match token {
+        Token::Text(text) => match Name::read(text) {
+            Ok(name) => Some(name),
             Err(_) => None,
         },
         Token::Number(_) | Token::Binder(_) => None,

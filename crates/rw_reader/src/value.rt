@@ -1,8 +1,8 @@
-//! Terms and formulas inside a request, and specifications.
+//! Terms and formulas inside a request, lists of them, and specifications.
 
 ghost use Rattle.std.specs.Prelude.{◌≡◌, ℕ, ◌≤◌, [], length, drop, MatchOption};
 ghost use Rattle.rw_reader.specs.Forms.{rest_of};
-ghost use Rattle.rw_reader.specs.Phrases.{formula, term, frame, spec};
+ghost use Rattle.rw_reader.specs.Phrases.{formula, term, terms, closed_terms, formulas, frame, spec};
 ghost use Rattle.rw_reader.specs.Progress.{IsPlace, Took, StandsAt, NoClass, GoesAt, EndsAt};
 
 use crate::class::class_of;
@@ -111,6 +111,64 @@ pub fn term(alloc: Global, most: u64, line: &[u8], at: &mut usize) -> Result<Box
 {
     let part = part(alloc, most, TERM, line, at)?;
     Ok(as_term(alloc, part)?)
+}
+
+/// Reads terms with commas between them, whose own nests are within `most`.
+pub fn terms(
+    alloc: Global,
+    most: u64,
+    line: &[u8],
+    at: &mut usize,
+) -> Result<Items<Term>, ReadError>
+    requires place { IsPlace line.now at.old }
+    requires bound { most ≤ 512 }
+    ensures took { Took (terms most) line.now at.old at.new result }
+    ensures on { at.old ≤ at.new }
+{
+    let mut terms = Items::new(alloc);
+    let first = term(alloc, most, line, at)?;
+    terms.push(first.into_inner())?;
+    'terms: while accept(line, at, b",") {
+        let next = term(alloc, most, line, at)?;
+        terms.push(next.into_inner())?;
+    }
+    Ok(terms)
+}
+
+/// Reads terms and a closing bracket, or that bracket alone.
+pub fn closed_terms(alloc: Global, line: &[u8], at: &mut usize) -> Result<Items<Term>, ReadError>
+    requires { IsPlace line.now at.old }
+    ensures took { Took closed_terms line.now at.old at.new result }
+    ensures on { at.old ≤ at.new }
+{
+    if accept(line, at, b")") {
+        return Ok(Items::new(alloc));
+    }
+    let terms = terms(alloc, 511, line, at)?;
+    expect(line, at, b")")?;
+    Ok(terms)
+}
+
+/// Reads formulas with this word or symbol between them, whose own nests are within `most`.
+pub fn formulas(
+    alloc: Global,
+    most: u64,
+    separator: &[u8],
+    line: &[u8],
+    at: &mut usize,
+) -> Result<Items<Formula>, ReadError>
+    requires place { IsPlace line.now at.old }
+    requires bound { most ≤ 512 }
+    ensures { Took (formulas most separator.now) line.now at.old at.new result }
+{
+    let mut formulas = Items::new(alloc);
+    let first = formula(alloc, most, line, at)?;
+    formulas.push(first.into_inner())?;
+    'formulas: while accept(line, at, separator) {
+        let next = formula(alloc, most, line, at)?;
+        formulas.push(next.into_inner())?;
+    }
+    Ok(formulas)
 }
 
 // The names before a colon, or none, and the colon.

@@ -1,7 +1,7 @@
 use Rattle.std.proofs.Common.{◌-◌, ◌≤◌, length}
 use Rattle.std.specs.Prelude.{codes}
-use Rattle.rw_reader.specs.Forms.{many, a_sum}
-use Rattle.rw_reader.specs.Certificates.{closed_line, closed_lines, lin_form, lin_in}
+use Rattle.rw_reader.specs.Forms.{a_sum}
+use Rattle.rw_reader.specs.Certificates.{lin_form, lin_in}
 use Rattle.rw_reader.specs.Progress.{IsPlace}
 use Rattle.rw_reader.proofs.Listing.{Listed}
 use Rattle.rw_reader.proofs.arithmetic.closed_lines.Given as goal

@@ -1,10 +1,5 @@
-use Rattle.std.proofs.Common.{◌≡◌, ◌<◌, ◌≤◌, ◌∙◌, Bool, true, false, ℕ, cond, arith, sym, ap, drop}
-use Rattle.std.specs.Prelude.{codes, leb, pos, nat_lt}
-use Rattle.std.proofs.lemmas.Bool.Decides.{nat_tests}
+use Rattle.std.proofs.Common.{◌∙◌, arith, sym, drop}
 use Rattle.std.proofs.lemmas.Result.{err_from_is_err_and}
-use Rattle.rw_reader.specs.Forms.{Form, either}
-use Rattle.rw_reader.specs.Reading.{read_form}
-use Rattle.rw_reader.specs.Certificates.{sum_or_quotient}
 use Rattle.rw_reader.proofs.Parts.{carried, passed_on, told_as}
 use Rattle.rw_reader.proofs.Choosing.{great_sum, small_sum}
 use Rattle.rw_reader.proofs.arithmetic.sum_or_quotient.Goals as goal

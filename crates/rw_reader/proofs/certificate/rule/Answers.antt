@@ -61,9 +61,16 @@ returns-then-accept-6-clause-took c = (c.in_ok-lines.ensures.took.0, λ k. c.if-
 pub returns-then-accept-6-clause-on : goal.returns-then-accept-6-clause-on
 returns-then-accept-6-clause-on c = let h0 = c.if-accept.ensures.on in let h1 = c.if-accept-2.ensures.on in let h2 = c.if-accept-3.ensures.on in let h3 = c.if-accept-4.ensures.on in let h4 = c.if-accept-5.ensures.on in let h5 = c.if-accept-6.ensures.on in let h6 = c.in_ok-lines.ensures.on in omega arith
 
+pub returns-then-accept-7-clause-took : goal.returns-then-accept-7-clause-took
+unfolding rule
+returns-then-accept-7-clause-took c = passed_on _ _ c.args.line.now _ _ _ c.lemma.result (λ k. c.if-accept.ensures.chose.1 _ _ ∙ c.if-accept-2.ensures.chose.1 _ _ ∙ c.if-accept-3.ensures.chose.1 _ _ ∙ c.if-accept-4.ensures.chose.1 _ _ ∙ c.if-accept-5.ensures.chose.1 _ _ ∙ c.if-accept-6.ensures.chose.1 _ _ ∙ c.if-accept-7.ensures.chose.1 _ _) c.lemma.ensures.took
+
+pub returns-then-accept-7-clause-on : goal.returns-then-accept-7-clause-on
+returns-then-accept-7-clause-on c = let h0 = c.if-accept.ensures.on in let h1 = c.if-accept-2.ensures.on in let h2 = c.if-accept-3.ensures.on in let h3 = c.if-accept-4.ensures.on in let h4 = c.if-accept-5.ensures.on in let h5 = c.if-accept-6.ensures.on in let h6 = c.if-accept-7.ensures.on in let h7 = c.lemma.ensures.on in omega arith
+
 pub returns-clause-took : goal.returns-clause-took
 unfolding rule
-returns-clause-took c = passed_on _ _ c.args.line.now _ _ _ c.instance.result (λ k. c.if-accept.ensures.chose.1 _ _ ∙ c.if-accept-2.ensures.chose.1 _ _ ∙ c.if-accept-3.ensures.chose.1 _ _ ∙ c.if-accept-4.ensures.chose.1 _ _ ∙ c.if-accept-5.ensures.chose.1 _ _ ∙ c.if-accept-6.ensures.chose.1 _ _) c.instance.ensures.took
+returns-clause-took c = passed_on _ _ c.args.line.now _ _ _ c.instance.result (λ k. c.if-accept.ensures.chose.1 _ _ ∙ c.if-accept-2.ensures.chose.1 _ _ ∙ c.if-accept-3.ensures.chose.1 _ _ ∙ c.if-accept-4.ensures.chose.1 _ _ ∙ c.if-accept-5.ensures.chose.1 _ _ ∙ c.if-accept-6.ensures.chose.1 _ _ ∙ c.if-accept-7.ensures.chose.1 _ _) c.instance.ensures.took
 
 pub returns-clause-on : goal.returns-clause-on
-returns-clause-on c = let h0 = c.if-accept.ensures.on in let h1 = c.if-accept-2.ensures.on in let h2 = c.if-accept-3.ensures.on in let h3 = c.if-accept-4.ensures.on in let h4 = c.if-accept-5.ensures.on in let h5 = c.if-accept-6.ensures.on in let h6 = c.instance.ensures.on in omega arith
+returns-clause-on c = let h0 = c.if-accept.ensures.on in let h1 = c.if-accept-2.ensures.on in let h2 = c.if-accept-3.ensures.on in let h3 = c.if-accept-4.ensures.on in let h4 = c.if-accept-5.ensures.on in let h5 = c.if-accept-6.ensures.on in let h6 = c.if-accept-7.ensures.on in let h7 = c.instance.ensures.on in omega arith

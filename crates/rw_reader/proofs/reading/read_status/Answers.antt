@@ -24,10 +24,22 @@ pub returns-then-accept-2 : goal.returns-then-accept-2
 unfolding status_form
 returns-then-accept-2 c = c.if-accept.ensures.chose.1 _ _ ∙ c.if-accept-2.ensures.chose.1 _ _ ∙ c.in_ok-place.ensures.1 _ ∙ c.in_ok-end-2.ensures _
 
+pub returns-in_err-name : goal.returns-in_err-name
+unfolding status_form
+returns-in_err-name c = let p = err_from_is_err_and c.from_residual-in_err-name.result c.from_residual-in_err-name.ensures.1 in rw (p.1, p.2) (carried c.args.line.now _ (c.if-accept.ensures.chose.1 _ _ ∙ c.if-accept-2.ensures.chose.1 _ _ ∙ c.if-accept-3.ensures.chose.1 _ _) (c.in_err-name.ensures.took _))
+
 pub returns-in_err-end-3 : goal.returns-in_err-end-3
 unfolding status_form
-returns-in_err-end-3 c = let p = err_from_is_err_and c.from_residual-in_err-end-3.result c.from_residual-in_err-end-3.ensures.1 in rw (p.1, p.2) (carried c.args.line.now _ (c.if-accept.ensures.chose.1 _ _ ∙ c.if-accept-2.ensures.chose.1 _ _) (c.in_err-end-3.ensures _))
+returns-in_err-end-3 c = let p = err_from_is_err_and c.from_residual-in_err-end-3.result c.from_residual-in_err-end-3.ensures.1 in rw (p.1, p.2) (carried c.args.line.now _ (c.if-accept.ensures.chose.1 _ _ ∙ c.if-accept-2.ensures.chose.1 _ _ ∙ c.if-accept-3.ensures.chose.1 _ _ ∙ c.in_ok-name.ensures.took.1 _) (c.in_err-end-3.ensures _))
+
+pub returns-then-accept-3 : goal.returns-then-accept-3
+unfolding status_form
+returns-then-accept-3 c = c.if-accept.ensures.chose.1 _ _ ∙ c.if-accept-2.ensures.chose.1 _ _ ∙ c.if-accept-3.ensures.chose.1 _ _ ∙ c.in_ok-name.ensures.took.1 _ ∙ c.in_ok-end-3.ensures _
+
+pub returns-in_err-end-4 : goal.returns-in_err-end-4
+unfolding status_form
+returns-in_err-end-4 c = let p = err_from_is_err_and c.from_residual-in_err-end-4.result c.from_residual-in_err-end-4.ensures.1 in rw (p.1, p.2) (carried c.args.line.now _ (c.if-accept.ensures.chose.1 _ _ ∙ c.if-accept-2.ensures.chose.1 _ _ ∙ c.if-accept-3.ensures.chose.1 _ _) (c.in_err-end-4.ensures _))
 
 pub returns : goal.returns
 unfolding status_form
-returns c = c.if-accept.ensures.chose.1 _ _ ∙ c.if-accept-2.ensures.chose.1 _ _ ∙ c.in_ok-end-3.ensures _
+returns c = c.if-accept.ensures.chose.1 _ _ ∙ c.if-accept-2.ensures.chose.1 _ _ ∙ c.if-accept-3.ensures.chose.1 _ _ ∙ c.in_ok-end-4.ensures _

@@ -14,12 +14,12 @@ returns-in_err-expect c = let p = err_from_is_err_and c.from_residual-in_err-exp
 
 pub returns-in_err-sort : goal.returns-in_err-sort
 unfolding var_form
-returns-in_err-sort c = let p = err_from_is_err_and c.from_residual-in_err-sort.result c.from_residual-in_err-sort.ensures.1 in rw (p.1, p.2) (carried c.args.line.now _ (c.in_ok-name.ensures.took.1 _ ∙ c.in_ok-expect.ensures.took.1 _) (c.in_err-sort.ensures _))
+returns-in_err-sort c = let p = err_from_is_err_and c.from_residual-in_err-sort.result c.from_residual-in_err-sort.ensures.1 in rw (p.1, p.2) (carried c.args.line.now _ (c.in_ok-name.ensures.took.1 _ ∙ c.in_ok-expect.ensures.took.1 _) (c.in_err-sort.ensures.took _))
 
 pub returns-in_err-end : goal.returns-in_err-end
 unfolding var_form
-returns-in_err-end c = let p = err_from_is_err_and c.from_residual-in_err-end.result c.from_residual-in_err-end.ensures.1 in rw (p.1, p.2) (carried c.args.line.now _ (c.in_ok-name.ensures.took.1 _ ∙ c.in_ok-expect.ensures.took.1 _ ∙ c.in_ok-sort.ensures.1 _) (c.in_err-end.ensures _))
+returns-in_err-end c = let p = err_from_is_err_and c.from_residual-in_err-end.result c.from_residual-in_err-end.ensures.1 in rw (p.1, p.2) (carried c.args.line.now _ (c.in_ok-name.ensures.took.1 _ ∙ c.in_ok-expect.ensures.took.1 _ ∙ c.in_ok-sort.ensures.took.1 _) (c.in_err-end.ensures _))
 
 pub returns : goal.returns
 unfolding var_form
-returns c = c.in_ok-name.ensures.took.1 _ ∙ c.in_ok-expect.ensures.took.1 _ ∙ c.in_ok-sort.ensures.1 _ ∙ c.in_ok-end.ensures _
+returns c = c.in_ok-name.ensures.took.1 _ ∙ c.in_ok-expect.ensures.took.1 _ ∙ c.in_ok-sort.ensures.took.1 _ ∙ c.in_ok-end.ensures _

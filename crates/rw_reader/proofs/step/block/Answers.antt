@@ -1,7 +1,7 @@
-use Rattle.std.proofs.Common.{◌∙◌, arith, sym, ap}
+use Rattle.std.proofs.Common.{◌∙◌}
 use Rattle.std.proofs.lemmas.Result.{err_from_is_err_and}
 use Rattle.rw_reader.specs.Steps.{block}
-use Rattle.rw_reader.proofs.Parts.{carried, passed_on, told_as}
+use Rattle.rw_reader.proofs.Parts.{carried}
 use Rattle.rw_reader.proofs.step.block.Goals as goal
 
 pub returns-in_err-name : goal.returns-in_err-name
@@ -14,8 +14,8 @@ returns-in_err-expect c = let p = err_from_is_err_and c.from_residual-in_err-exp
 
 pub returns-in_err-sort : goal.returns-in_err-sort
 unfolding block
-returns-in_err-sort c = let p = err_from_is_err_and c.from_residual-in_err-sort.result c.from_residual-in_err-sort.ensures.1 in rw (p.1, p.2) (λ k. carried c.args.line.now _ (c.in_ok-name.ensures.took.1 _ ∙ c.in_ok-expect.ensures.took.1 _) (c.in_err-sort.ensures _))
+returns-in_err-sort c = let p = err_from_is_err_and c.from_residual-in_err-sort.result c.from_residual-in_err-sort.ensures.1 in rw (p.1, p.2) (λ k. carried c.args.line.now _ (c.in_ok-name.ensures.took.1 _ ∙ c.in_ok-expect.ensures.took.1 _) (c.in_err-sort.ensures.took _))
 
 pub returns : goal.returns
 unfolding block
-returns c = (c.in_ok-sort.ensures.0, λ k. c.in_ok-name.ensures.took.1 _ ∙ c.in_ok-expect.ensures.took.1 _ ∙ c.in_ok-sort.ensures.1 _)
+returns c = (c.in_ok-sort.ensures.took.0, λ k. c.in_ok-name.ensures.took.1 _ ∙ c.in_ok-expect.ensures.took.1 _ ∙ c.in_ok-sort.ensures.took.1 _)

@@ -1,10 +1,10 @@
-use Rattle.std.proofs.Common.{◌∙◌, ◌++◌, ◌≤◌, [], ◌∷◌, arith, refl, sym, ap, subst}
+use Rattle.std.proofs.Common.{◌∙◌, ◌++◌, [], ◌∷◌, arith, refl, sym, ap, subst}
 use Rattle.std.specs.Prelude.{codes}
 use Rattle.std.proofs.lemmas.Result.{err_from_is_err_and}
 use Rattle.rw_reader.specs.Forms.{many, a_name, takes, a_constant}
 use Rattle.rw_reader.specs.Phrases.{constants, constant_form, name_in}
 use Rattle.rw_reader.proofs.ListItems.{constant_item}
-use Rattle.rw_reader.proofs.Listing.{Listed, Grown, first_item, first_fault, next_item, item_fault, last_item}
+use Rattle.rw_reader.proofs.Listing.{Listed, first_item, first_fault, next_item, item_fault, last_item}
 use Rattle.rw_reader.proofs.taking.constants.Goals as goal
 
 pub returns-in_err-first : goal.returns-in_err-first

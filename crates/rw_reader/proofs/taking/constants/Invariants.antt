@@ -1,7 +1,7 @@
-use Rattle.std.proofs.Common.{◌-◌, ◌≤◌, length}
+use Rattle.std.proofs.Common.{◌-◌, length}
 use Rattle.std.specs.Prelude.{codes}
-use Rattle.rw_reader.specs.Forms.{many, a_name, takes, a_constant}
-use Rattle.rw_reader.specs.Phrases.{constants, constant_form, name_in}
+use Rattle.rw_reader.specs.Forms.{a_name}
+use Rattle.rw_reader.specs.Phrases.{constant_form, name_in}
 use Rattle.rw_reader.specs.Progress.{IsPlace}
 use Rattle.rw_reader.proofs.Listing.{Listed}
 use Rattle.rw_reader.proofs.taking.constants.Given as goal

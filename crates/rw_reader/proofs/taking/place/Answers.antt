@@ -1,7 +1,6 @@
-use Rattle.std.proofs.Common.{◌∙◌}
 use Rattle.std.proofs.lemmas.Result.{err_from_is_err_and}
 use Rattle.rw_reader.specs.Phrases.{place}
-use Rattle.rw_reader.proofs.Parts.{carried, passed_on}
+use Rattle.rw_reader.proofs.Parts.{passed_on}
 use Rattle.rw_reader.proofs.taking.place.Goals as goal
 
 pub returns-in_err-expect : goal.returns-in_err-expect

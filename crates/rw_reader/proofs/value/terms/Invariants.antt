@@ -1,16 +1,16 @@
 use Rattle.std.proofs.Common.{◌-◌, ◌≤◌, length}
 use Rattle.std.specs.Prelude.{codes}
-use Rattle.rw_reader.specs.Forms.{many, a_term}
-use Rattle.rw_reader.specs.Phrases.{term}
-use Rattle.rw_reader.specs.Steps.{terms, term_form, term_in}
+use Rattle.rw_reader.specs.Forms.{a_term}
+use Rattle.rw_reader.specs.Phrases.{term_form, term_in}
 use Rattle.rw_reader.specs.Progress.{IsPlace}
 use Rattle.rw_reader.proofs.Listing.{Listed}
-use Rattle.rw_reader.proofs.step.terms.Given as goal
+use Rattle.rw_reader.proofs.value.terms.Given as goal
 
 abbrev pub invariant-terms : goal.invariant-terms
 invariant-terms l = record {
   place : IsPlace l.line l.at;
-  listed : Listed term_form (codes ",") a_term term_in l.line l.fn.at l.at l.terms;
+  on : l.fn.at ≤ l.at;
+  listed : Listed (term_form l.most) (codes ",") a_term term_in l.line l.fn.at l.at l.terms;
 }
 
 abbrev pub decreases-terms : goal.decreases-terms
