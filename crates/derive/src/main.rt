@@ -10,6 +10,8 @@ mod output;
 mod replies;
 mod run;
 mod stop;
+#[cfg(test)]
+mod tables;
 mod top;
 
 use rw_io::{NoDisk, NoDoors, Reading, Writing};

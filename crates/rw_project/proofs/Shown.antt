@@ -7,17 +7,21 @@ use Rattle.rw_tree.specs.declared.refusal.EditRefusal.{EditRefusal}
 use Rattle.rw_tree.specs.declared.status.NodeMark.{NodeMark}
 use Rattle.rw_tree.specs.declared.status.Status.{Status}
 use Rattle.rw_tree.specs.declared.status.Status.TheVariants as status
-use Rattle.rw_tree.specs.Refusals.{refusal_of, IsGood}
-use Rattle.rw_tree.specs.Anew.{anew, IsClosed}
+use Rattle.rw_tree.specs.Accepting.{refusal_of, IsGood}
+use Rattle.rw_tree.specs.Anew.{anew}
+use Rattle.rw_tree.specs.declared.status.LemmaMark.{LemmaMark}
+use Rattle.rw_tree.specs.declared.status.NeedState.{NeedState}
+use Rattle.rw_tree.specs.declared.status.NeedState.TheVariants as need
+use Rattle.rw_tree.specs.Uses.{used_lemmas, IsClosed}
 use Rattle.rw_tree.proofs.Same.{first_told}
 use Rattle.rw_collect.proofs.Closed.{closed_refined}
 use Rattle.rw_nodes.specs.declared.edit.Place.{Place}
 use Rattle.rw_reader.specs.declared.request.Request.{Request}
 use Rattle.rw_reader.specs.declared.request.Request.TheVariants as request
 use Rattle.rw_reader.specs.Reading.{Reading, reads, fault, reading}
-use Rattle.rw_project.specs.Texts.{is_good, closed_text, not_closed_text, closing_text}
-use Rattle.rw_project.specs.Goals.{goal_texts, mark_of}
-use Rattle.rw_project.specs.Session.{History, most_weight, no_history, past_limits, refusal_after, edited, told_of, no_lines, reply, reply_by, reply_to, is_silent, after, history_from, history_of}
+use Rattle.rw_project.specs.Texts.{is_good, is_good_state, closed_text, not_closed_text, lemma_open_text, lemmas_text, closing_text}
+use Rattle.rw_project.specs.Goals.{goal_texts, mark_of, lemma_of}
+use Rattle.rw_project.specs.Session.{History, most_weight, no_history, past_limits, refusal_after, edited, told_of, told_lemma, closing_of, no_lines, reply, reply_by, reply_to, is_silent, after, history_from, history_of}
 use Rattle.rw_project.specs.Headline.{StatusIsAnew, Headline}
 
 -- what is told of the first node that is not good is no text of a closed derivation
@@ -41,16 +45,41 @@ first_good false mark later e = absurd (not_closed_differs mark e)
 abbrev IsGoodMark : NodeMark → Type 0
 IsGoodMark mark = mark.status ≡ status.Good
 
-all_good : (marks : List NodeMark) → closing_text marks ≡ closed_text → Each IsGoodMark marks
-all_good [] e = tt
-all_good (mark ∷ marks) e = let first = first_good (is_good mark.status) mark (closing_text marks) e in (good_told mark.status first.0, all_good marks first.1)
+good_state_told : (s : NeedState) → is_good_state s ≡ true → s ≡ need.Good
+good_state_told need.Good e = refl
+good_state_told need.Missing e = absurd (cc)
+good_state_told (need.Bad line sub cause) e = absurd (cc)
 
-told_closed : (marks : List NodeMark) → Each IsGoodMark marks → closing_text marks ≡ closed_text
-told_closed [] h = refl
-told_closed (mark ∷ marks) h = ap (λ s. if is_good s then closing_text marks else not_closed_text mark) h.0 ∙ told_closed marks h.1
+first_good_lemma : (b : Bool) (mark : LemmaMark) (later : List ℕ) → (if b then later else lemma_open_text mark) ≡ closed_text → (b ≡ true) × (later ≡ closed_text)
+first_good_lemma true mark later e = (refl, e)
+first_good_lemma false mark later e = absurd (fourth_differs _ e)
 
-pub closed_exactly : (l : List Edit) → closing_text (anew l).nodes ≡ closed_text ↔ IsClosed l
-closed_exactly l = (all_good (anew l).nodes, told_closed (anew l).nodes)
+abbrev IsGoodLemma : LemmaMark → Type 0
+IsGoodLemma mark = mark.state ≡ need.Good
+
+lemmas_good : (used : List LemmaMark) → lemmas_text used ≡ closed_text → Each IsGoodLemma used
+lemmas_good [] e = tt
+lemmas_good (mark ∷ used) e = let first = first_good_lemma (is_good_state mark.state) mark (lemmas_text used) e in (good_state_told mark.state first.0, lemmas_good used first.1)
+
+lemmas_closed : (used : List LemmaMark) → Each IsGoodLemma used → lemmas_text used ≡ closed_text
+lemmas_closed [] h = refl
+lemmas_closed (mark ∷ used) h = ap (λ s. if is_good_state s then lemmas_text used else lemma_open_text mark) h.0 ∙ lemmas_closed used h.1
+
+all_good : (marks : List NodeMark) (used : List LemmaMark) → closing_text marks used ≡ closed_text → Each IsGoodMark marks × Each IsGoodLemma used
+all_good [] used e = (tt, lemmas_good used e)
+all_good (mark ∷ marks) used e =
+    let first = first_good (is_good mark.status) mark (closing_text marks used) e in
+    let rest = all_good marks used first.1 in ((good_told mark.status first.0, rest.0), rest.1)
+
+told_closed : (marks : List NodeMark) (used : List LemmaMark) → Each IsGoodMark marks → Each IsGoodLemma used → closing_text marks used ≡ closed_text
+told_closed [] used h lemmas = lemmas_closed used lemmas
+told_closed (mark ∷ marks) used h lemmas = ap (λ s. if is_good s then closing_text marks used else not_closed_text mark) h.0 ∙ told_closed marks used h.1 lemmas
+
+pub closed_exactly : (l : List Edit) → closing_of l ≡ closed_text ↔ IsClosed l
+closed_exactly l = (
+  λ e. let all = all_good (anew l).nodes (used_lemmas l) e in record { nodes = all.0; lemmas = all.1 },
+  λ closed. told_closed (anew l).nodes (used_lemmas l) closed.nodes closed.lemmas,
+)
 
 -- an edit that is taken is accepted
 good_edited : (history : History) (bytes : ℕ) (e : Edit) (o : Option EditRefusal) → refusal_after history bytes e ≡ o → IsGood most_weight history.0 → IsGood most_weight (edited history bytes e o).after.0
@@ -61,10 +90,15 @@ good_shown : (history : History) (place : Place) (lines : NodeMark → List (Lis
 good_shown history place lines None good = good
 good_shown history place lines (Some mark) good = good
 
+good_lemma : (history : History) (x : List ℕ) (o : Option LemmaMark) → IsGood most_weight history.0 → IsGood most_weight (told_lemma history x o).after.0
+good_lemma history x None good = good
+good_lemma history x (Some mark) good = good
+
 good_reply : (history : History) (bytes : ℕ) (r : Reading) → IsGood most_weight history.0 → IsGood most_weight (reply_by history bytes r).after.0
 good_reply history bytes (reads (request.Edit e)) good = good_edited history bytes e (refusal_after history bytes e) refl good
 good_reply history bytes (reads request.Status) good = good
 good_reply history bytes (reads (request.StatusAt place)) good = good_shown history place no_lines (mark_of place (anew history.0).nodes) good
+good_reply history bytes (reads (request.StatusLemma x)) good = good_lemma history x (lemma_of x (anew history.0).lemmas) good
 good_reply history bytes (reads request.StatusAll) good = good
 good_reply history bytes (reads (request.Goal place)) good = good_shown history place goal_texts (mark_of place (anew history.0).nodes) good
 good_reply history bytes (fault offset) good = good
@@ -92,7 +126,7 @@ unfolding reply
 reply_told history line r asks = ap (reply_by history (length line)) asks
 
 -- what the reply to a request for the status is
-status_told : (history : History) (line : List ℕ) → reading line ≡ reads request.Status → (reply history line).end ≡ closing_text (anew history.0).nodes
+status_told : (history : History) (line : List ℕ) → reading line ≡ reads request.Status → (reply history line).end ≡ closing_of history.0
 unfolding reply
 status_told history line asks = ap (λ r. (reply_by history (length line) r).end) asks
 
@@ -101,6 +135,7 @@ status_anew history line good = record {
   status = status_told history line;
   exactly = λ asks. (λ e. (closed_exactly history.0).0 (sym (status_told history line asks) ∙ e), λ closed. status_told history line asks ∙ (closed_exactly history.0).1 closed);
   at_place = λ place asks. reply_told history line (request.StatusAt place) asks;
+  lemma = λ x asks. reply_told history line (request.StatusLemma x) asks;
   each = λ asks. reply_told history line request.StatusAll asks;
   goal = λ place asks. reply_told history line (request.Goal place) asks;
   refined = λ shows. closed_refined most_weight history.0 good ((closed_exactly history.0).0 (sym (status_told history line shows.asks) ∙ shows.shows));

@@ -5,7 +5,8 @@ use Rattle.rw_nodes.specs.declared.edit.Place.{Place}
 use Rattle.rw_tree.specs.declared.status.Need.{Need}
 use Rattle.rw_tree.specs.declared.status.NodeMark.{NodeMark}
 use Rattle.rw_printer.specs.Layout.{spec_text, sequent_text}
-use Rattle.rw_project.specs.Texts.{place_text, state_text, status_text}
+use Rattle.rw_tree.specs.declared.status.LemmaMark.{LemmaMark}
+use Rattle.rw_project.specs.Texts.{place_text, state_text, status_text, lemma_text}
 
 -- a node's place and status
 abbrev pub mark_text : NodeMark → List ℕ
@@ -26,6 +27,15 @@ needs_texts k (n ∷ needs) = need_text k n ∷ needs_texts (k + 1) needs
 abbrev pub spec_texts : Option Spec → List (List ℕ)
 spec_texts None = []
 spec_texts (Some w) = (codes "spec " ++ spec_text w) ∷ []
+
+-- what is told of a lemma that is asked for
+abbrev pub lemma_told_text : LemmaMark → List ℕ
+lemma_told_text m = codes "ok " ++ lemma_text m
+
+-- what checking tells of the lemma of a name, if there is one
+abbrev pub lemma_of : List ℕ → List LemmaMark → Option LemmaMark
+lemma_of x [] = None
+lemma_of x (m ∷ marks) = if bytes_eq m.name x then Some m else lemma_of x marks
 
 -- a node's specification, where it has one, and its obligations
 abbrev pub goal_texts : NodeMark → List (List ℕ)

@@ -7,13 +7,16 @@ use Rattle.rw_tree.specs.declared.status.NodeMark.{NodeMark}
 use Rattle.rw_tree.specs.declared.refusal.EditRefusal.{EditRefusal}
 use Rattle.rw_tree.specs.declared.refusal.EditRefusal.TheVariants as refusal
 use Rattle.rw_tree.specs.declared.refusal.Which.TheVariants as which
-use Rattle.rw_tree.specs.Refusals.{or_refusal, refusal_of}
+use Rattle.rw_tree.specs.Refusals.{or_refusal}
+use Rattle.rw_tree.specs.Accepting.{refusal_of}
+use Rattle.rw_tree.specs.declared.status.LemmaMark.{LemmaMark}
 use Rattle.rw_tree.specs.Anew.{anew}
+use Rattle.rw_tree.specs.Uses.{used_lemmas}
 use Rattle.rw_reader.specs.declared.request.Request.{Request}
 use Rattle.rw_reader.specs.declared.request.Request.TheVariants as request
 use Rattle.rw_reader.specs.Reading.{Reading, reads, fault, reading}
-use Rattle.rw_project.specs.Texts.{accepted_text, refusal_text, syntax_text, closing_text}
-use Rattle.rw_project.specs.Goals.{mark_text, node_text, goal_texts, mark_of}
+use Rattle.rw_project.specs.Texts.{accepted_text, refusal_text, syntax_text, lemma_text, closing_text}
+use Rattle.rw_project.specs.Goals.{mark_text, node_text, goal_texts, mark_of, lemma_told_text, lemma_of}
 
 -- the live edits, the newest first, and how many bytes the lines of all accepted edits had
 abbrev pub History : Type 0
@@ -80,15 +83,29 @@ abbrev pub told_of : History → Place → (NodeMark → List (List ℕ)) → Op
 told_of history place lines None = record { after = history; lines = []; end = refusal_text (refusal.NoNode place); refused = true }
 told_of history place lines (Some mark) = told history (lines mark) (node_text mark)
 
+-- what is told of the lemma of a name, if there is one
+abbrev pub told_lemma : History → List ℕ → Option LemmaMark → Reply
+told_lemma history x None = record { after = history; lines = []; end = refusal_text (refusal.Unknown x); refused = true }
+told_lemma history x (Some mark) = told history [] (lemma_told_text mark)
+
+-- closed, or the first that is not good, as checking the live edits anew tells
+abbrev pub closing_of : List Edit → List ℕ
+closing_of l = closing_text (anew l).nodes (used_lemmas l)
+
+-- each node and each lemma with its status
+abbrev pub all_texts : List Edit → List (List ℕ)
+all_texts l = map mark_text (anew l).nodes ++ map lemma_text (anew l).lemmas
+
 abbrev pub no_lines : NodeMark → List (List ℕ)
 no_lines mark = []
 
 -- the statuses are those of checking the live edits anew
 abbrev pub reply_to : History → ℕ → Request → Reply
 reply_to history bytes (request.Edit edit) = edited history bytes edit (refusal_after history bytes edit)
-reply_to history bytes request.Status = told history [] (closing_text (anew history.0).nodes)
+reply_to history bytes request.Status = told history [] (closing_of history.0)
 reply_to history bytes (request.StatusAt place) = told_of history place no_lines (mark_of place (anew history.0).nodes)
-reply_to history bytes request.StatusAll = told history (map mark_text (anew history.0).nodes) (closing_text (anew history.0).nodes)
+reply_to history bytes (request.StatusLemma x) = told_lemma history x (lemma_of x (anew history.0).lemmas)
+reply_to history bytes request.StatusAll = told history (all_texts history.0) (closing_of history.0)
 reply_to history bytes (request.Goal place) = told_of history place goal_texts (mark_of place (anew history.0).nodes)
 
 abbrev pub reply_by : History → ℕ → Reading → Reply

@@ -7,6 +7,8 @@ use Rattle.rw_nodes.specs.declared.edit.TreeName.TheVariants as tree
 use Rattle.rw_nodes.specs.declared.edit.Place.{Place}
 use Rattle.rw_tree.specs.declared.refusal.Which.{Which}
 use Rattle.rw_tree.specs.declared.refusal.Which.TheVariants as which
+use Rattle.rw_tree.specs.declared.refusal.Spot.{Spot}
+use Rattle.rw_tree.specs.declared.refusal.Spot.TheVariants as spot
 use Rattle.rw_tree.specs.declared.refusal.EditRefusal.{EditRefusal}
 use Rattle.rw_tree.specs.declared.refusal.EditRefusal.TheVariants as refusal
 use Rattle.rw_tree.specs.declared.status.NeedState.{NeedState}
@@ -14,6 +16,7 @@ use Rattle.rw_tree.specs.declared.status.NeedState.TheVariants as need
 use Rattle.rw_tree.specs.declared.status.Status.{Status}
 use Rattle.rw_tree.specs.declared.status.Status.TheVariants as status
 use Rattle.rw_tree.specs.declared.status.NodeMark.{NodeMark}
+use Rattle.rw_tree.specs.declared.status.LemmaMark.{LemmaMark}
 
 -- kid numbers, each behind `/`
 abbrev pub kids_text : List ℕ → List ℕ
@@ -71,6 +74,12 @@ which_text which.Bytes = codes "bytes"
 which_text which.Authors = codes "authors"
 which_text which.Steps = codes "steps"
 
+-- what uses a name: an entry is told as its name, and else the place
+abbrev pub spot_text : Spot → List ℕ
+spot_text (spot.Define x) = x
+spot_text (spot.Lemma x) = x
+spot_text (spot.At place) = place_text place
+
 -- Want of memory is no refusal, and has no text.
 abbrev pub refusal_text : EditRefusal → List ℕ
 refusal_text (refusal.Unknown x) = codes "E2 unknown " ++ x
@@ -80,6 +89,8 @@ refusal_text (refusal.NoNode place) = codes "E5 no node " ++ place_text place
 refusal_text (refusal.NoObligation k) = codes "E6 no obligation " ++ decimal k
 refusal_text (refusal.Limit w n) = codes "E7 limit " ++ which_text w ++ codes " " ++ decimal n
 refusal_text (refusal.Full w) = codes "E8 full weight " ++ decimal w
+refusal_text (refusal.Order x) = codes "E9 order " ++ x
+refusal_text (refusal.InUse x s) = codes "E10 in use " ++ x ++ codes " " ++ spot_text s
 refusal_text refusal.Memory = []
 
 abbrev pub accepted_text : ℕ → List ℕ
@@ -95,13 +106,36 @@ is_good (status.Misfit m) = false
 is_good (status.Pending k state) = false
 is_good status.Good = true
 
+abbrev pub is_good_state : NeedState → Bool
+is_good_state need.Good = true
+is_good_state need.Missing = false
+is_good_state (need.Bad line sub cause) = false
+
+-- the status of a lemma
+abbrev pub lemma_state_text : NeedState → List ℕ
+lemma_state_text need.Good = codes "good"
+lemma_state_text need.Missing = codes "pending " ++ state_text need.Missing
+lemma_state_text (need.Bad line sub cause) = codes "pending " ++ state_text (need.Bad line sub cause)
+
+-- a lemma's name and status
+abbrev pub lemma_text : LemmaMark → List ℕ
+lemma_text m = codes "lemma " ++ m.name ++ codes " " ++ lemma_state_text m.state
+
 abbrev pub closed_text : List ℕ
 closed_text = codes "ok closed"
 
 abbrev pub not_closed_text : NodeMark → List ℕ
 not_closed_text mark = codes "ok not closed " ++ place_text mark.place ++ codes " " ++ status_text mark.status
 
--- closed where each node is good, and else the first that is not
-abbrev pub closing_text : List NodeMark → List ℕ
-closing_text [] = closed_text
-closing_text (mark ∷ marks) = if is_good mark.status then closing_text marks else not_closed_text mark
+abbrev pub lemma_open_text : LemmaMark → List ℕ
+lemma_open_text mark = codes "ok not closed " ++ lemma_text mark
+
+-- closed where each lemma that is used is good, and else the first that is not
+abbrev pub lemmas_text : List LemmaMark → List ℕ
+lemmas_text [] = closed_text
+lemmas_text (mark ∷ marks) = if is_good_state mark.state then lemmas_text marks else lemma_open_text mark
+
+-- closed where each node is good and each lemma that is used, and else the first that is not
+abbrev pub closing_text : List NodeMark → List LemmaMark → List ℕ
+closing_text [] used = lemmas_text used
+closing_text (mark ∷ marks) used = if is_good mark.status then closing_text marks used else not_closed_text mark

@@ -2,15 +2,17 @@
 ghost use Rattle.std.specs.Prelude.{◌≡◌, ◌++◌, map, codes, option_copied, IfOk, OnOk};
 ghost use Rattle.rw_printer.specs.Layout.{spec_text};
 ghost use Rattle.rw_tree.specs.declared.status.NodeMark.{NodeMark};
-ghost use Rattle.rw_project.specs.Goals.{mark_text, node_text, need_text, needs_texts, spec_texts, goal_texts, is_at, mark_of};
+ghost use Rattle.rw_project.specs.Goals.{mark_text, node_text, need_text, needs_texts, spec_texts, goal_texts, is_at, mark_of, lemma_told_text, lemma_of};
+ghost use Rattle.rw_project.specs.Texts.{lemma_text};
 
-use crate::texts::{push_place, push_state, push_status};
+use crate::texts::{push_lemma, push_place, push_state, push_status};
 use rw_items::Items;
 use rw_nodes::edit::Place;
 use rw_printer::{push_sequent, push_spec};
 use rw_programs::prog::Spec;
+use rw_terms::name::Name;
 use rw_terms::text::Text;
-use rw_tree::status::{Need, NodeMark};
+use rw_tree::status::{LemmaMark, Need, NodeMark};
 use std::alloc::{AllocError, Global};
 
 /// The place and the status of each node.
@@ -24,6 +26,44 @@ pub fn mark_texts(alloc: Global, marks: &[NodeMark]) -> Result<Items<Text>, Allo
         texts.push(text)?;
     }
     Ok(texts)
+}
+
+/// Adds the name and the status of each lemma.
+pub fn push_lemmas(
+    alloc: Global,
+    texts: &mut Items<Text>,
+    marks: &[LemmaMark],
+) -> Result<(), AllocError>
+    ensures { OnOk result (texts.new ≡ texts.old ++ map lemma_text marks.now) }
+{
+    for mark in marks {
+        let mut text = Text::new(alloc);
+        push_lemma(&mut text, mark)?;
+        texts.push(text)?;
+    }
+    Ok(())
+}
+
+/// `ok`, and the name and the status of a lemma.
+pub fn lemma_told_text(alloc: Global, mark: &LemmaMark) -> Result<Text, AllocError>
+    ensures { IfOk result (λ text. text ≡ lemma_told_text mark.now) }
+{
+    let mut text = Text::new(alloc);
+    text.push_str("ok ")?;
+    push_lemma(&mut text, mark)?;
+    Ok(text)
+}
+
+/// What checking tells of the lemma of a name, if there is one.
+pub fn lemma_of<'a>(name: &Name, marks: &'a [LemmaMark]) -> Option<&'a LemmaMark>
+    ensures { option_copied result ≡ lemma_of name.now marks.now }
+{
+    for mark in marks {
+        if mark.name.is(name) {
+            return Some(mark);
+        }
+    }
+    None
 }
 
 /// `ok`, and the place and the status of a node.

@@ -4,27 +4,33 @@ ghost use Rattle.rw_reader.specs.declared.request.Request.TheVariants as request
 ghost use Rattle.rw_reader.specs.Reading.{reading, reads};
 ghost use Rattle.rw_nodes.specs.declared.edit.Edit.{Edit};
 ghost use Rattle.rw_nodes.specs.Parts.{Makes};
-ghost use Rattle.rw_tree.specs.Refusals.{refusal_of, IsGood, IsProject};
+ghost use Rattle.rw_tree.specs.Accepting.{refusal_of, IsGood, IsProject};
 ghost use Rattle.rw_tree.specs.Anew.{anew};
-ghost use Rattle.rw_project.specs.Texts.{closing_text, syntax_text, refusal_text};
-ghost use Rattle.rw_project.specs.Goals.{mark_text, goal_texts, mark_of};
-ghost use Rattle.rw_project.specs.Session.{reply, edited, told_of, no_lines, refusal_after, past_limits, no_history};
+ghost use Rattle.rw_project.specs.Texts.{syntax_text, refusal_text};
+ghost use Rattle.rw_project.specs.Goals.{goal_texts, mark_of, lemma_of};
+ghost use Rattle.rw_project.specs.Session.{reply, edited, told_of, told_lemma, closing_of, all_texts, no_lines, refusal_after, past_limits, no_history};
 ghost use Rattle.rw_project.specs.Headline.{StatusIsAnew};
 ghost use Rattle.rw_project.specs.declared.project.ProjectError.TheVariants.{Memory};
 
-use crate::goals::{goal_texts, mark_of, mark_texts, node_text};
-use crate::texts::{accepted_text, closing_text, no_node_text, refusal_text, syntax_text};
+use crate::goals::{
+    goal_texts, lemma_of, lemma_told_text, mark_of, mark_texts, node_text, push_lemmas,
+};
+use crate::texts::{
+    accepted_text, closing_text, no_node_text, refusal_text, syntax_text, unknown_text,
+};
 use rw_items::Items;
 use rw_nodes::edit::{Edit, Place};
 use rw_nodes::parts::Parts;
 use rw_reader::read_request;
 use rw_reader::request::{ReadError, Request};
 use rw_steps::Steps;
+use rw_terms::name::Name;
 use rw_terms::text::Text;
 use rw_tree::anew::check_anew;
 use rw_tree::apply::apply_edit;
 use rw_tree::refusal::{EditRefusal, TreeError, Which};
 use rw_tree::status::Statuses;
+use rw_tree::uses::used_lemmas;
 use std::alloc::{AllocError, Global};
 use std::marker::Model;
 use std::sync::ledger::Ledger;
@@ -51,7 +57,7 @@ impl Model for Project {
     ghost use Rattle.std.specs.Prelude.{reverse, ◌≤◌};
     ghost use Rattle.std.specs.Coded.{codes};
     ghost use Rattle.rw_nodes.specs.contracts.edit.Edit as e;
-    ghost use Rattle.rw_tree.specs.Refusals.{IsGood};
+    ghost use Rattle.rw_tree.specs.Accepting.{IsGood};
     ghost use Rattle.rw_nodes.specs.Parts.{Makes};
     ghost use Rattle.rw_project.specs.Session.{History};
 
@@ -131,6 +137,7 @@ impl Project {
             Ok(Request::Edit(edit)) => self.take(line.len() as u32, edit),
             Ok(Request::Status) => self.tell(steps),
             Ok(Request::StatusAt(place)) => self.tell_status(&place, steps),
+            Ok(Request::StatusLemma(name)) => self.tell_lemma(&name, steps),
             Ok(Request::StatusAll) => self.tell_all(steps),
             Ok(Request::Goal(place)) => self.tell_goal(&place, steps),
             Err(ReadError::Syntax(offset)) => self.misread(offset),
@@ -183,11 +190,11 @@ impl Project {
     // The reply to a request for the status.
     fn tell<L: Ledger>(&self, steps: &mut Steps<L>) -> Result<Reply, ProjectError>
         ensures lines { IfOk result (λ r. r.lines ≡ []) }
-        ensures end { IfOk result (λ r. r.end ≡ closing_text (anew self.now.0).nodes) }
+        ensures end { IfOk result (λ r. r.end ≡ closing_of self.now.0) }
         ensures refused { IfOk result (λ r. r.refused ≡ false) }
     {
         let statuses = self.statuses(steps)?;
-        let end = closing_text(self.alloc, statuses.nodes.as_slice())?;
+        let end = self.closing(&statuses)?;
         Ok(Reply {
             lines: Items::new(self.alloc),
             end,
@@ -195,15 +202,47 @@ impl Project {
         })
     }
 
-    // The reply to a request for the status of each node.
+    // Closed, or the first that is not good, by what checking the live edits anew told.
+    fn closing(&self, statuses: &Statuses) -> Result<Text, ProjectError>
+        requires { statuses.now ≡ anew self.now.0 }
+        ensures { IfOk result (λ text. text ≡ closing_of self.now.0) }
+    {
+        let used = used_lemmas(self.alloc, &self.parts, statuses.lemmas.as_slice())?;
+        let text = closing_text(self.alloc, statuses.nodes.as_slice(), used.as_slice())?;
+        Ok(text)
+    }
+
+    // The reply to a request for the status of a lemma.
+    fn tell_lemma<L: Ledger>(
+        &self,
+        name: &Name,
+        steps: &mut Steps<L>,
+    ) -> Result<Reply, ProjectError>
+        ensures lines { IfOk result (λ r. r.lines ≡ (told_lemma self.now name.now (lemma_of name.now (anew self.now.0).lemmas)).lines) }
+        ensures end { IfOk result (λ r. r.end ≡ (told_lemma self.now name.now (lemma_of name.now (anew self.now.0).lemmas)).end) }
+        ensures refused { IfOk result (λ r. r.refused ≡ (told_lemma self.now name.now (lemma_of name.now (anew self.now.0).lemmas)).refused) }
+    {
+        let statuses = self.statuses(steps)?;
+        match lemma_of(name, statuses.lemmas.as_slice()) {
+            Some(mark) => Ok(Reply {
+                lines: Items::new(self.alloc),
+                end: lemma_told_text(self.alloc, mark)?,
+                refused: false,
+            }),
+            None => no_lemma(self.alloc, name),
+        }
+    }
+
+    // The reply to a request for the status of each node and each lemma.
     fn tell_all<L: Ledger>(&self, steps: &mut Steps<L>) -> Result<Reply, ProjectError>
-        ensures lines { IfOk result (λ r. r.lines ≡ map mark_text (anew self.now.0).nodes) }
-        ensures end { IfOk result (λ r. r.end ≡ closing_text (anew self.now.0).nodes) }
+        ensures lines { IfOk result (λ r. r.lines ≡ all_texts self.now.0) }
+        ensures end { IfOk result (λ r. r.end ≡ closing_of self.now.0) }
         ensures refused { IfOk result (λ r. r.refused ≡ false) }
     {
         let statuses = self.statuses(steps)?;
-        let lines = mark_texts(self.alloc, statuses.nodes.as_slice())?;
-        let end = closing_text(self.alloc, statuses.nodes.as_slice())?;
+        let mut lines = mark_texts(self.alloc, statuses.nodes.as_slice())?;
+        push_lemmas(self.alloc, &mut lines, statuses.lemmas.as_slice())?;
+        let end = self.closing(&statuses)?;
         Ok(Reply {
             lines,
             end,
@@ -279,6 +318,20 @@ fn no_node(alloc: Global, place: &Place) -> Result<Reply, ProjectError>
     ensures refused { IfOk result (λ r. r.refused ≡ true) }
 {
     let end = no_node_text(alloc, place)?;
+    Ok(Reply {
+        lines: Items::new(alloc),
+        end,
+        refused: true,
+    })
+}
+
+// The reply where no lemma has the name.
+fn no_lemma(alloc: Global, name: &Name) -> Result<Reply, ProjectError>
+    ensures lines { IfOk result (λ r. r.lines ≡ []) }
+    ensures end { IfOk result (λ r. r.end ≡ refusal_text (EditRefusal.Unknown name.now)) }
+    ensures refused { IfOk result (λ r. r.refused ≡ true) }
+{
+    let end = unknown_text(alloc, name)?;
     Ok(Reply {
         lines: Items::new(alloc),
         end,

@@ -1,12 +1,13 @@
 // The texts of replies.
 ghost use Rattle.std.specs.Prelude.{◌≡◌, ◌++◌, [], ◌∷◌, List, IfOk, OnOk};
-ghost use Rattle.rw_project.specs.Texts.{kids_text, tree_text, place_text, point_text, state_text, misfit_number, status_text, which_text, refusal_text, accepted_text, syntax_text, is_good, closed_text, not_closed_text, closing_text};
+ghost use Rattle.rw_project.specs.Texts.{kids_text, tree_text, place_text, point_text, state_text, misfit_number, status_text, which_text, spot_text, refusal_text, accepted_text, syntax_text, is_good, is_good_state, lemma_state_text, lemma_text, lemma_open_text, lemmas_text, closed_text, not_closed_text, closing_text};
 
 use rw_nodes::edit::{Place, TreeName};
 use rw_programs::applied::Misfit;
+use rw_terms::name::Name;
 use rw_terms::text::Text;
-use rw_tree::refusal::{EditRefusal, Which};
-use rw_tree::status::{NeedState, NodeMark, Status};
+use rw_tree::refusal::{EditRefusal, Spot, Which};
+use rw_tree::status::{LemmaMark, NeedState, NodeMark, Status};
 use std::alloc::{AllocError, Global};
 
 pub fn accepted_text(alloc: Global, number: u64) -> Result<Text, AllocError>
@@ -57,9 +58,28 @@ pub fn refusal_text(alloc: Global, refusal: &EditRefusal) -> Result<Text, AllocE
             text.push_str("E8 full weight ")?;
             text.push_number(*weight)?;
         }
+        EditRefusal::Order(name) => {
+            text.push_str("E9 order ")?;
+            text.push_name(name)?;
+        }
+        EditRefusal::InUse(name, spot) => {
+            text.push_str("E10 in use ")?;
+            text.push_name(name)?;
+            text.push_str(" ")?;
+            push_spot(&mut text, spot)?;
+        }
         EditRefusal::Memory => {}
     }
     Ok(text)
+}
+
+fn push_spot(text: &mut Text, spot: &Spot) -> Result<(), AllocError>
+    ensures { OnOk result (text.new ≡ text.old ++ spot_text spot.now) }
+{
+    match spot {
+        Spot::Define(name) | Spot::Lemma(name) => text.push_name(name),
+        Spot::At(place) => push_place(text, place),
+    }
 }
 
 fn push_limit(text: &mut Text, which: Which, most: u32) -> Result<(), AllocError>
@@ -102,16 +122,78 @@ pub fn no_node_text(alloc: Global, place: &Place) -> Result<Text, AllocError>
     Ok(text)
 }
 
-/// `ok closed` where each node is good, and else the first that is not.
-pub fn closing_text(alloc: Global, marks: &[NodeMark]) -> Result<Text, AllocError>
-    ensures { IfOk result (λ text. text ≡ closing_text marks.now) }
+/// What is answered where no lemma has the name.
+pub fn unknown_text(alloc: Global, name: &Name) -> Result<Text, AllocError>
+    ensures { IfOk result (λ text. text ≡ refusal_text (EditRefusal.Unknown name.now)) }
+{
+    let mut text = Text::new(alloc);
+    text.push_str("E2 unknown ")?;
+    text.push_name(name)?;
+    Ok(text)
+}
+
+/// `ok closed` where each node is good and each lemma that is used, and else the first that is not.
+pub fn closing_text(
+    alloc: Global,
+    marks: &[NodeMark],
+    used: &[LemmaMark],
+) -> Result<Text, AllocError>
+    ensures { IfOk result (λ text. text ≡ closing_text marks.now used.now) }
 {
     for mark in marks {
         if !is_good(mark.status) {
             return not_closed_text(alloc, mark);
         }
     }
+    lemmas_text(alloc, used)
+}
+
+fn lemmas_text(alloc: Global, used: &[LemmaMark]) -> Result<Text, AllocError>
+    ensures { IfOk result (λ text. text ≡ lemmas_text used.now) }
+{
+    for mark in used {
+        if !is_good_state(mark.state) {
+            return lemma_open_text(alloc, mark);
+        }
+    }
     closed_text(alloc)
+}
+
+fn is_good_state(state: NeedState) -> bool
+    ensures { result ≡ is_good_state state }
+{
+    matches!(state, NeedState::Good)
+}
+
+fn lemma_open_text(alloc: Global, mark: &LemmaMark) -> Result<Text, AllocError>
+    ensures { IfOk result (λ text. text ≡ lemma_open_text mark.now) }
+{
+    let mut text = Text::new(alloc);
+    text.push_str("ok not closed ")?;
+    push_lemma(&mut text, mark)?;
+    Ok(text)
+}
+
+/// Writes a lemma's name and status behind a text.
+pub fn push_lemma(text: &mut Text, mark: &LemmaMark) -> Result<(), AllocError>
+    ensures { OnOk result (text.new ≡ text.old ++ lemma_text mark.now) }
+{
+    text.push_str("lemma ")?;
+    text.push_name(&mark.name)?;
+    text.push_str(" ")?;
+    push_lemma_state(text, mark.state)
+}
+
+fn push_lemma_state(text: &mut Text, state: NeedState) -> Result<(), AllocError>
+    ensures { OnOk result (text.new ≡ text.old ++ lemma_state_text state) }
+{
+    match state {
+        NeedState::Good => text.push_str("good"),
+        state => {
+            text.push_str("pending ")?;
+            push_state(text, state)
+        }
+    }
 }
 
 fn closed_text(alloc: Global) -> Result<Text, AllocError>

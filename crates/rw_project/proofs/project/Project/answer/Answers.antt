@@ -1,5 +1,5 @@
 use Rattle.std.proofs.Common.{subst}
-use Rattle.rw_tree.specs.Refusals.{IsGood}
+use Rattle.rw_tree.specs.Accepting.{IsGood}
 use Rattle.rw_project.proofs.Shown.{status_anew}
 use Rattle.rw_project.proofs.project.Project.answer.Goals as goal
 
