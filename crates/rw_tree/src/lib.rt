@@ -12,8 +12,6 @@ pub mod limits;
 pub mod refusal;
 pub mod root;
 pub mod status;
-#[cfg(test)]
-mod tests;
 pub mod unknown;
 pub mod users;
 pub mod uses;

@@ -1,5 +1,0 @@
-use Rattle.std.proofs.Common.{[]}
-use Rattle.rw_tree.proofs.tests.empty.Goals as goal
-
-pub returns : goal.returns
-returns c = (c.args.most, [], tt, c.empty.ensures)
