@@ -11,5 +11,3 @@ pub mod lines;
 pub mod poly;
 pub mod products;
 pub mod sums;
-#[cfg(test)]
-mod tests;

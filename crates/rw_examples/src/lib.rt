@@ -1,9 +1,29 @@
-//! Examples worked by hand that cross crates: texts that are read, and what becomes of them.
+//! Examples worked by hand, of one crate or across several: the calls of the crates below the project on their happy paths and at their edges.
 #![tactic(auto)]
 
 #[cfg(test)]
+mod arithmetic;
+#[cfg(test)]
+mod certificates;
+#[cfg(test)]
+mod expressions;
+#[cfg(test)]
 mod faults;
 #[cfg(test)]
+mod laws;
+#[cfg(test)]
+mod lemmas;
+#[cfg(test)]
+mod loops;
+#[cfg(test)]
+mod printing;
+#[cfg(test)]
+mod programs;
+#[cfg(test)]
+mod requests;
+#[cfg(test)]
 mod substitution;
+#[cfg(test)]
+mod terms;
 #[cfg(test)]
 mod texts;

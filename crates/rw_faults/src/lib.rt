@@ -5,6 +5,4 @@ pub mod faults;
 pub mod initial;
 pub mod laws;
 pub mod limits;
-#[cfg(test)]
-mod tests;
 pub mod unknown;

@@ -16,5 +16,3 @@ pub mod sequences;
 pub mod single;
 pub mod skeletons;
 pub mod step;
-#[cfg(test)]
-mod tests;

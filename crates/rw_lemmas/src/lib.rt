@@ -9,5 +9,3 @@ pub mod placing;
 pub mod refusal;
 pub mod status;
 pub mod table;
-#[cfg(test)]
-mod tests;

@@ -13,5 +13,3 @@ pub mod limits;
 pub mod owing;
 pub mod skeletons;
 pub mod step;
-#[cfg(test)]
-mod tests;

@@ -9,8 +9,6 @@ mod levels;
 mod pieces;
 mod printing;
 mod terms;
-#[cfg(test)]
-mod tests;
 
 pub use certificates::push_cert;
 pub use printing::{

@@ -8,5 +8,3 @@ pub mod laws;
 pub mod prog;
 pub mod scoped;
 pub mod sorted;
-#[cfg(test)]
-mod tests;

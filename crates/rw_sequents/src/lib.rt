@@ -6,7 +6,5 @@ pub mod check;
 pub mod error;
 pub mod laws;
 pub mod line;
-#[cfg(test)]
-mod tests;
 
 pub use rw_goals::library::{Definition, Item, Lemma, Library};

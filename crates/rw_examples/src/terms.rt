@@ -1,19 +1,19 @@
 //! What the contracts leave open: examples whose answers were worked out by hand, and the depth that the stack carries.
 
-use crate::division::{quotient, rest};
-use crate::error::{NameError, ScopeError, TermError};
-use crate::formed::well_formed;
-use crate::measure::{depth, depth_of_term, weight, weight_of_term};
-use crate::mention::{free_in, free_in_term};
-use crate::name::Name;
-use crate::naming::names_of;
-use crate::sameness::{same, same_term};
-use crate::scope::{Entry, Head, Kind, Scope};
-use crate::sequent::Sequent;
-use crate::sorts::sort_of;
-use crate::term::{Formula, Sort, Term};
-use crate::text::Text;
 use rw_items::{Boxed, Items};
+use rw_terms::division::{quotient, rest};
+use rw_terms::error::{NameError, ScopeError, TermError};
+use rw_terms::formed::well_formed;
+use rw_terms::measure::{depth, depth_of_term, weight, weight_of_term};
+use rw_terms::mention::{free_in, free_in_term};
+use rw_terms::name::Name;
+use rw_terms::naming::names_of;
+use rw_terms::sameness::{same, same_term};
+use rw_terms::scope::{Entry, Head, Kind, Scope};
+use rw_terms::sequent::Sequent;
+use rw_terms::sorts::sort_of;
+use rw_terms::term::{Formula, Sort, Term};
+use rw_terms::text::Text;
 use std::alloc::Global;
 use std::process::Abort;
 use std::test::Fail;

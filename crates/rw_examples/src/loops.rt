@@ -1,9 +1,9 @@
 //! Each call once; the tables of causes and of derivations stand with the top call.
 
-use crate::apply::{apply, premises};
-use crate::counts::counts;
-use crate::step::LoopStep;
 use rw_items::Items;
+use rw_loops::apply::{apply, premises};
+use rw_loops::counts::counts;
+use rw_loops::step::LoopStep;
 use rw_programs::applied::Context;
 use rw_programs::prog::{Prog, Spec};
 use rw_terms::name::Name;

@@ -1,7 +1,7 @@
 use Rattle.std.proofs.Common.{◌∙◌, sym, subst, arith}
 use Rattle.rw_sequents.specs.After.{IsCounted}
 use Rattle.rw_sequents.proofs.Counts.{few}
-use Rattle.rw_lemmas.proofs.tests.put.Goals as goal
+use Rattle.rw_examples.proofs.lemmas.put.Goals as goal
 
 pub set-requires-clause-counted : goal.set-requires-clause-counted
 set-requires-clause-counted g c =

@@ -1,10 +1,10 @@
 //! Tables of cases, worked out by hand.
 
-use crate::applied::Context;
-use crate::code::is_code;
-use crate::prog::{Arm, Pin, Prog, Spec};
-use crate::scoped::well_scoped;
 use rw_items::{Boxed, Items};
+use rw_programs::applied::Context;
+use rw_programs::code::is_code;
+use rw_programs::prog::{Arm, Pin, Prog, Spec};
+use rw_programs::scoped::well_scoped;
 use rw_terms::name::Name;
 use rw_terms::scope::{Entry, Kind, Scope};
 use rw_terms::term::{Formula, Sort, Term};

@@ -2,12 +2,12 @@
 
 ghost use Rattle.std.specs.Prelude.{◌≡◌, ◌<◌, length};
 
-use crate::check::check_lines;
-use crate::error::LinError;
-use crate::expand::{expand, is_polynomial};
-use crate::given::{given_by_left, given_by_right};
-use crate::line::{LinLine, Part, Ref};
-use crate::poly::{Expansion, Summand};
+use rw_arith::check::check_lines;
+use rw_arith::error::LinError;
+use rw_arith::expand::{expand, is_polynomial};
+use rw_arith::given::{given_by_left, given_by_right};
+use rw_arith::line::{LinLine, Part, Ref};
+use rw_arith::poly::{Expansion, Summand};
 use rw_items::{Boxed, Items};
 use rw_steps::Steps;
 use rw_terms::name::Name;

@@ -2,10 +2,10 @@
 
 ghost use Rattle.std.specs.Prelude.{◌≡◌, ◌<◌};
 
-use crate::status::LemmaStatus;
-use crate::table::Lemmas;
 use rw_goals::library::{Definition, Item, Lemma};
 use rw_items::{Boxed, Items};
+use rw_lemmas::status::LemmaStatus;
+use rw_lemmas::table::Lemmas;
 use rw_library::entries::has_entry;
 use rw_sequents::line::{Cert, CertLine};
 use rw_steps::Steps;

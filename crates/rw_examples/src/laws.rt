@@ -1,9 +1,9 @@
 //! Cases that no request reaches yet, worked out by hand: names of kind value and of modules. The other causes stand with the top call.
 
-use crate::apply::{apply, premises};
-use crate::counts::counts;
-use crate::step::BasicStep;
 use rw_items::Items;
+use rw_laws::apply::{apply, premises};
+use rw_laws::counts::counts;
+use rw_laws::step::BasicStep;
 use rw_programs::applied::{ApplyError, Context};
 use rw_programs::prog::{Prog, Spec};
 use rw_terms::name::Name;

@@ -1,7 +1,7 @@
 //! What is printed, by tables, and that it reads back.
 
-use crate::{print_cert, print_formula, print_sequent, print_spec, print_term};
 use rw_items::{Boxed, Items};
+use rw_printer::{print_cert, print_formula, print_sequent, print_spec, print_term};
 use rw_programs::prog::Spec;
 use rw_reader::{read_cert, read_formula, read_term};
 use rw_terms::name::Name;

@@ -2,11 +2,11 @@
 
 ghost use Rattle.std.specs.Prelude.{◌≡◌, ◌<◌};
 
-use crate::check::check;
-use crate::line::{Cert, CertLine, Verdict};
 use rw_citations::goal::goal_of;
 use rw_goals::library::{Definition, Item, Lemma, Library};
 use rw_items::{Boxed, Items};
+use rw_sequents::check::check;
+use rw_sequents::line::{Cert, CertLine, Verdict};
 use rw_steps::Steps;
 use rw_terms::name::Name;
 use rw_terms::sequent::Sequent;
