@@ -1,4 +1,4 @@
--- A verdict stays where the library that changes says the same of the predicates of the goal and of the lemmas that the certificate cites.
+-- A verdict stays where the library that changes says the same of what the lines read.
 use Rattle.std.proofs.Common.{◌≡◌, ℕ, ◌+◌, ◌-◌, Bool, true, false, List, [], ◌∷◌, ◌++◌, length, take, remove, Option, Some, None, refl, sym, ap, ◌∙◌}
 use Rattle.std.specs.Prelude.{is_some}
 use Rattle.std.proofs.Math.Seq.{take-length}
@@ -44,32 +44,34 @@ module _ (S : List ℕ → Type 0) (library library' : Library) (before before' 
   abbrev pub SameDefinitions : Type 0
   SameDefinitions = (p : List ℕ) → S p → definition_of library.entries p ≡ definition_of library'.entries p
 
-  -- they say the same of the formula of a cut and of a cited lemma
+  -- they say the same of the formula of a cut, of a cited lemma and, where a line unfolds one, of the definitions
   abbrev pub SameLine : CertLine → Type 0
   SameLine (line.Cut f) = (names : List Named) → keeps_rules names library.entries f [] ≡ keeps_rules names library'.entries f []
   SameLine (line.Lemma n ts) =
       (lemma_of (take before library.entries) n ≡ lemma_of (take before' library'.entries) n) × (is_some (lemma_of library.entries n) ≡ is_some (lemma_of library'.entries n))
+  SameLine (line.UnfoldL i) = SameDefinitions
+  SameLine (line.UnfoldR j) = SameDefinitions
   SameLine _ = Unit {0}
 
-  module _ (same : SameDefinitions) (bodies : Closed S library.entries) where
-    left_alike : (names : List Named) (x : Formula-F Formula) → LayerWithin S x → unfold_left names library.entries x ≡ unfold_left names library'.entries x
-    left_alike names (Formula-F.App p ts) h = ap (λ o. unfolded_left names o ts) (same p h.0)
-    left_alike names _ h = refl
+  module _ (bodies : Closed S library.entries) where
+    left_alike : SameDefinitions → (names : List Named) (x : Formula-F Formula) → LayerWithin S x → unfold_left names library.entries x ≡ unfold_left names library'.entries x
+    left_alike same names (Formula-F.App p ts) h = ap (λ o. unfolded_left names o ts) (same p h.0)
+    left_alike same names _ h = refl
 
-    right_alike : (names : List Named) (x : Formula-F Formula) → LayerWithin S x → unfold_right names library.entries x ≡ unfold_right names library'.entries x
-    right_alike names (Formula-F.App p ts) h = ap (λ o. unfolded_right names o ts) (same p h.0)
-    right_alike names _ h = refl
+    right_alike : SameDefinitions → (names : List Named) (x : Formula-F Formula) → LayerWithin S x → unfold_right names library.entries x ≡ unfold_right names library'.entries x
+    right_alike same names (Formula-F.App p ts) h = ap (λ o. unfolded_right names o ts) (same p h.0)
+    right_alike same names _ h = refl
 
     pub line_alike : (q : Sequent) (l : CertLine) → GoalWithin S q → SameLine l → after_line library before q l ≡ after_line library' before' q l
     line_alike q (line.Cut f) h k = ap (λ b. effect (cut_parts b (is_large f) f) q) (k q.names)
     line_alike q (line.UnfoldL i) h k =
         alike (λ f. unfold_left q.names library.entries (out-Formula f)) (λ f. unfold_left q.names library'.entries (out-Formula f))
         (record { names = q.names; left = remove q.left (i - 1); right = q.right }) (numbered q.left i)
-        (λ f e. left_alike q.names (out-Formula f) (opened S f (at_number (Within S) q.left i f e h.0)))
+        (λ f e. left_alike k q.names (out-Formula f) (opened S f (at_number (Within S) q.left i f e h.0)))
     line_alike q (line.UnfoldR j) h k =
         alike (λ f. unfold_right q.names library.entries (out-Formula f)) (λ f. unfold_right q.names library'.entries (out-Formula f))
         (record { names = q.names; left = q.left; right = remove q.right (j - 1) }) (numbered q.right j)
-        (λ f e. right_alike q.names (out-Formula f) (opened S f (at_number (Within S) q.right j f e h.1)))
+        (λ f e. right_alike k q.names (out-Formula f) (opened S f (at_number (Within S) q.right j f e h.1)))
     line_alike q (line.Lemma n ts) h k =
         ap (λ o. effect (cited_left q.names o (lemma_of library.entries n) ts) q) k.0
         ∙ ap (λ p. effect p q) (any_alike q.names (lemma_of (take before' library'.entries) n) _ _ ts k.1)

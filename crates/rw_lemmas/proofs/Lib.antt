@@ -10,3 +10,5 @@ pub mod Removing
 pub mod Without
 pub mod Whole
 pub mod Sound
+pub mod Changed
+pub mod Unaffected

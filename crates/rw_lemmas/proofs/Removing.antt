@@ -2,7 +2,7 @@
 use Rattle.std.proofs.Common.{◌≡◌, ℕ, zero, suc, ◌+◌, ◌<◌, ◌≤◌, Bool, true, false, not, ◌&&◌, ◌||◌, if◌then◌else◌, List, [], ◌∷◌, take, remove, Option, Some, None, refl, sym, ap, ◌∙◌, subst, arith, true≢false, bytes_eq, nat_eq}
 use Rattle.std.specs.Prelude.{is_some, slice_get}
 use Rattle.std.specs.List.{list_any}
-use Rattle.std.specs.Option.{option_and_then}
+use Rattle.std.specs.Option.{option_and_then, option_map}
 use Rattle.std.proofs.lemmas.Slice.Eq.{bytes_eq-Decides}
 use Rattle.std.proofs.lemmas.Bool.{eqb-true}
 use Rattle.rw_terms.specs.declared.term.Formula.{Formula}
@@ -19,7 +19,7 @@ use Rattle.rw_sequents.specs.declared.line.CertLine.{CertLine}
 use Rattle.rw_sequents.specs.declared.line.CertLine.TheVariants as line
 use Rattle.rw_sequents.specs.declared.line.Cert.{Cert}
 use Rattle.rw_sequents.proofs.Table as found
-use Rattle.rw_library.specs.Entries.{entry_name}
+use Rattle.rw_library.specs.Entries.{entry_name, sorts_of}
 use Rattle.rw_library.specs.Naming.{applies, item_names, line_names}
 use Rattle.rw_lemmas.specs.Citing.{predicates}
 use Rattle.rw_lemmas.specs.States.{by_verdict, proof_at, status_at, statuses_from}
@@ -74,7 +74,7 @@ not_so : {X : Type 0} (b : Bool) (x : X) → b ≡ false → if_so b x ≡ None
 not_so false x e = refl
 not_so true x e = absurd (true≢false e)
 
-or_parts : (a b : Bool) → (a || b) ≡ false → (a ≡ false) × (b ≡ false)
+pub or_parts : (a b : Bool) → (a || b) ≡ false → (a ≡ false) × (b ≡ false)
 or_parts false b e = (refl, e)
 or_parts true b e = absurd (true≢false e)
 
@@ -118,11 +118,11 @@ module _ (x : List ℕ) where
   no_parameters (item.Lemma l) n e o = refl
 
   -- formulas that do not apply the name
-  others : (ps : List (List ℕ)) → list_any (λ p. bytes_eq p x) ps ≡ false → Each Other ps
+  pub others : (ps : List (List ℕ)) → list_any (λ p. bytes_eq p x) ps ≡ false → Each Other ps
   others [] e = tt
   others (p ∷ ps) e = let r = or_parts (bytes_eq p x) _ e in (r.0, others ps r.1)
 
-  within : (f : Formula) → applies x f ≡ false → Within Other f
+  pub within : (f : Formula) → applies x f ≡ false → Within Other f
   within f e = others (predicates f) (sym (seen_predicates x f) ∙ e)
 
   all_within : (fs : List Formula) → list_any (applies x) fs ≡ false → Each (Within Other) fs
@@ -180,9 +180,11 @@ module _ (x : List ℕ) where
       line_same (line.Cut f) h = λ names. rules_alike names es (remove es p) f
           (alike (predicates f) (within f h)) []
         where
-          alike : (qs : List (List ℕ)) → Each Other qs → Each (λ q. parameters_of es q ≡ parameters_of (remove es p) q) qs
+          alike : (qs : List (List ℕ)) → Each Other qs → Each (λ q. option_map sorts_of (parameters_of es q) ≡ option_map sorts_of (parameters_of (remove es p) q)) qs
           alike [] k = tt
-          alike (q ∷ qs) k = (sym (parameters_skipped es p e q there (no_parameters e q named k.0)), alike qs k.1)
+          alike (q ∷ qs) k = (ap (option_map sorts_of) (sym (parameters_skipped es p e q there (no_parameters e q named k.0))), alike qs k.1)
+      line_same (line.UnfoldL i) h = same_definitions before before'
+      line_same (line.UnfoldR j) h = same_definitions before before'
       line_same (line.Lemma n ts) h = (citable n h, ap is_some (sym (lemma_skipped es p e n there (no_lemma e n named h))))
       line_same _ h = tt
 
@@ -203,7 +205,7 @@ module _ (x : List ℕ) where
       status_same (item.Definition d) o h k = refl
       status_same (item.Lemma l) None h k = refl
       status_same (item.Lemma l) (Some cert) h k =
-          ap by_verdict (verdict_stays Other library library' before before' (same_definitions before before') closed (goal_of l) cert (lemma_within l h) (each_same cert.lines k) (each_in cert.lines k))
+          ap by_verdict (verdict_stays Other library library' before before' closed (goal_of l) cert (lemma_within l h) (each_same cert.lines k) (each_in cert.lines k))
 
     citable_before : (i : ℕ) → i ≤ p → (n : List ℕ) → Other n → lemma_of (take i es) n ≡ lemma_of (take i (remove es p)) n
     citable_before i h n o = ap (λ ds. lemma_of ds n) (sym (front_before es p i h))

@@ -1,5 +1,6 @@
--- Whether a formula keeps the rules depends on the definitions of its own predicates alone.
-use Rattle.std.proofs.Common.{◌≡◌, ℕ, Bool, ◌&&◌, List, ◌∷◌, map, refl, sym, ap, ◌∙◌, subst}
+-- Whether a formula keeps the rules depends on the sorts of its own predicates alone.
+use Rattle.std.proofs.Common.{◌≡◌, ℕ, Bool, ◌&&◌, List, ◌∷◌, map, Option, Some, None, refl, sym, ap, ◌∙◌, subst}
+use Rattle.std.specs.Option.{option_map}
 use Rattle.rw_terms.specs.declared.term.Sort.{Sort}
 use Rattle.rw_terms.specs.declared.term.Formula.{Formula}
 use Rattle.rw_terms.specs.declared.term.Formula.TheOpen.{Formula-F}
@@ -7,16 +8,24 @@ use Rattle.rw_terms.specs.declared.term.Formula.TheViews.{roll-Formula}
 use Rattle.rw_terms.specs.declared.term.Formula.TheFolds.{map-Formula, ind-Formula, fold-roll-Formula}
 use Rattle.rw_terms.specs.Formed.{is_sort}
 use Rattle.rw_terms.specs.Named.{Named}
+use Rattle.rw_terms.specs.Rules.{are_of}
 use Rattle.rw_terms.specs.Validity.{Each}
 use Rattle.rw_goals.specs.declared.library.Item.{Item}
 use Rattle.rw_goals.specs.Library.{parameters_of}
 use Rattle.rw_goals.specs.Sorting.{takes, sort_of, keeps_step, keeps_rules}
+use Rattle.rw_library.specs.Entries.{sorts_of}
 use Rattle.rw_lemmas.specs.Citing.{predicates_step, predicates}
 use Rattle.rw_lemmas.proofs.Within.{split}
 
+takes_alike : (o p : Option (List Named)) (sorts : List (Option Sort)) → option_map sorts_of o ≡ option_map sorts_of p → takes o sorts ≡ takes p sorts
+takes_alike None None sorts e = refl
+takes_alike None (Some qs) sorts e = absurd (cc)
+takes_alike (Some ps) None sorts e = absurd (cc)
+takes_alike (Some ps) (Some qs) sorts e = let same : sorts_of ps ≡ sorts_of qs = cc in ap (λ ss. are_of ss sorts) same
+
 module _ (names : List Named) (es es' : List Item) where
   abbrev pub Alike : List ℕ → Type 0
-  Alike p = parameters_of es p ≡ parameters_of es' p
+  Alike p = option_map sorts_of (parameters_of es p) ≡ option_map sorts_of (parameters_of es' p)
 
   abbrev Same : Formula → Type 0
   Same f = Each Alike (predicates f) → (sorts : List Sort) → keeps_rules names es f sorts ≡ keeps_rules names es' f sorts
@@ -41,7 +50,7 @@ module _ (names : List Named) (es es' : List Item) where
   same_layer (Formula-F.Imp f g) h sorts = let r = split Alike (predicates f.0) (predicates g.0) h in λ i. f.1 r.0 sorts i && g.1 r.1 sorts i
   same_layer (Formula-F.All s f) h sorts = ap (λ b. is_sort s && b) (f.1 h (s ∷ sorts))
   same_layer (Formula-F.Any s f) h sorts = ap (λ b. is_sort s && b) (f.1 h (s ∷ sorts))
-  same_layer (Formula-F.App p args) h sorts = ap (λ o. takes o (map (sort_of names sorts) args)) h.0
+  same_layer (Formula-F.App p args) h sorts = takes_alike (parameters_of es p) (parameters_of es' p) (map (sort_of names sorts) args) h.0
 
   same_at : (y : Layer) → Same (roll-Formula (inside y))
   same_at y h sorts =

@@ -17,7 +17,8 @@ use Rattle.rw_lemmas.specs.declared.status.LemmaStatus.TheVariants as status
 use Rattle.rw_lemmas.specs.States.{by_verdict, proof_at, status_at, statuses_from}
 use Rattle.rw_lemmas.specs.Sound.{GoodIsValid}
 
-in_its_place : (library : Library) (ps : List (Option Cert)) (k : ℕ) (es : List Item) (i : ℕ) (e : Item) → slice_get es i ≡ Some e →
+-- the status of an entry in a place
+pub in_its_place : (library : Library) (ps : List (Option Cert)) (k : ℕ) (es : List Item) (i : ℕ) (e : Item) → slice_get es i ≡ Some e →
     slice_get (statuses_from library ps k es) i ≡ Some (status_at library (k + i) e (proof_at ps (k + i)))
 in_its_place library ps k [] i e h = absurd (cc)
 in_its_place library ps k (d ∷ es) zero e h =
@@ -40,7 +41,7 @@ good_at : (library : Library) (ps : List (Option Cert)) (p : ℕ) (l : Lemma) (o
 good_at library ps p l None is e = absurd (cc)
 good_at library ps p l (Some cert) is e = (cert, there_is (slice_get ps p) cert is, good_told (verdict library p (goal_of l) cert) e)
 
-some_inside : {X : Type 0} {x y : X} → Some x ≡ Some y → x ≡ y
+pub some_inside : {X : Type 0} {x y : X} → Some x ≡ Some y → x ≡ y
 some_inside e = cc
 
 pub good_is_valid : GoodIsValid

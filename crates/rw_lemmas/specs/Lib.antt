@@ -3,3 +3,5 @@ pub mod Table
 pub mod Refusals
 pub mod Citing
 pub mod Sound
+pub mod Affected
+pub mod Differing

@@ -25,7 +25,8 @@ pub fn cited_names(alloc: Global, cert: &Cert) -> Result<Items<Name>, AllocError
     Ok(names)
 }
 
-fn has_unfolding(lines: &[CertLine]) -> bool
+/// Whether some line unfolds a definition.
+pub fn has_unfolding(lines: &[CertLine]) -> bool
     ensures { result ≡ list_any is_unfolding lines.now }
 {
     for line in lines {

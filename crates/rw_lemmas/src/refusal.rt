@@ -187,7 +187,8 @@ fn keeps_sorts(entries: &[Item], definition: &Definition) -> bool
     true
 }
 
-fn same_sorts(one: &[(Name, Sort)], other: &[(Name, Sort)]) -> bool
+/// Whether the parameters have the same sorts.
+pub fn same_sorts(one: &[(Name, Sort)], other: &[(Name, Sort)]) -> bool
     ensures { result ≡ same_sorts (sorts_of one.now) (sorts_of other.now) }
 {
     if one.len() != other.len() {

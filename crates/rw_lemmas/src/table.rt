@@ -1,22 +1,29 @@
 //! The table of definitions and lemmas with its certificates and statuses.
 
-ghost use Rattle.std.specs.Prelude.{◌≡◌, ◌+◌, ◌<◌, ◌⊎◌, ℕ, length, IfOk, IfErr, OnOk, OnErr, None, Some, IsTrue, option_copied};
+ghost use Rattle.std.specs.Prelude.{◌≡◌, ◌<◌, ◌≤◌, ◌⊎◌, ◌↔◌, ℕ, length, slice_get, IfOk, IfErr, OnOk, OnErr, None, Some, IsTrue, option_copied};
+ghost use Rattle.rw_sequents.specs.declared.line.Cert.{Cert};
+ghost use Rattle.rw_goals.specs.declared.library.Item.{Item};
 ghost use Rattle.std.specs.Option.{IfSome};
 ghost use Rattle.rw_sequents.specs.After.{IsCounted};
 ghost use Rattle.rw_library.specs.Entries.{has_entry};
 ghost use Rattle.rw_lemmas.specs.declared.error.LemmaError.{LemmaError};
 ghost use Rattle.rw_lemmas.specs.Citing.{cited_names};
-ghost use Rattle.rw_lemmas.specs.States.{status_from, proof_from};
-ghost use Rattle.rw_lemmas.specs.Table.{Table, IsTable, empty, anew, anew_checks, status_of, proof_of, with_entry, with_moved, without};
+ghost use Rattle.rw_lemmas.specs.States.{AreCounted, proof_at, status_at, statuses_from, status_from, proof_from};
+ghost use Rattle.rw_lemmas.specs.Table.{Table, IsTable, empty, anew, status_of, proof_of, with_entry, with_moved, without};
+ghost use Rattle.rw_lemmas.specs.Affected.{IsAffected, Costs, OnlyAffected};
+ghost use Rattle.rw_lemmas.specs.Differing.{TellsChanges};
 ghost use Rattle.rw_lemmas.specs.Refusals.{set_refusal, move_refusal, remove_refusal};
 
-use crate::anew::{proof_at, statuses};
+use crate::anew::{checked, proof_at};
 use crate::citing::cited_names;
+use crate::differing::{Changes, changes_between};
 use crate::error::LemmaError;
 use crate::placing::{copy_proofs, move_to, proof_of_entry, put_at, take_out};
 use crate::refusal::{order_refusal, set_refusal, use_refusal};
+use crate::same::{same_cert, same_lemma};
 use crate::status::LemmaStatus;
-use rw_goals::library::{Item, Library};
+use crate::staying::reads_change;
+use rw_goals::library::{Item, Lemma, Library};
 use rw_items::{Items, at};
 use rw_library::entries::{entry_name, is_entry, is_lemma, place_of};
 use rw_sequents::line::Cert;
@@ -133,7 +140,7 @@ impl Lemmas {
         ensures err { IfErr result (λ e. (e ≡ LemmaError.Memory) ⊎ (set_refusal self.old entry ≡ Some e)) }
         ensures same { OnErr result (self.new ≡ self.old) }
         ensures refused { IfErr result (λ e. (e ≡ LemmaError.Memory) ⊎ (steps.new ≡ steps.old)) }
-        ensures cost { OnOk result (steps.new ≡ steps.old + anew_checks self.new) }
+        ensures cost { OnOk result (OnlyAffected self.old self.new steps.old steps.new) }
     {
         self.put(&entry, &proof, steps)
     }
@@ -151,7 +158,7 @@ impl Lemmas {
         ensures err { IfErr result (λ e. (e ≡ LemmaError.Memory) ⊎ (set_refusal self.old entry.now ≡ Some e)) }
         ensures same { OnErr result (self.new ≡ self.old) }
         ensures refused { IfErr result (λ e. (e ≡ LemmaError.Memory) ⊎ (steps.new ≡ steps.old)) }
-        ensures cost { OnOk result (steps.new ≡ steps.old + anew_checks self.new) }
+        ensures cost { OnOk result (OnlyAffected self.old self.new steps.old steps.new) }
     {
         let entries = self.library.entries.as_slice();
         if let Some(refusal) = set_refusal(self.alloc, entries, self.proofs.as_slice(), entry)? {
@@ -180,13 +187,128 @@ impl Lemmas {
         ensures ok { OnOk result (self.new ≡ record { library = library; proofs = proofs }) }
         ensures err { IfErr result (λ e. e ≡ LemmaError.Memory) }
         ensures same { OnErr result (self.new ≡ self.old) }
-        ensures cost { OnOk result (steps.new ≡ steps.old + anew_checks self.new) }
+        ensures cost { OnOk result (OnlyAffected self.old self.new steps.old steps.new) }
     {
-        let statuses = statuses(self.alloc, &library, proofs.as_slice(), steps)?;
+        let statuses = self.statuses_in(&library, proofs.as_slice(), steps)?;
         self.library = library;
         self.proofs = proofs;
         self.statuses = statuses;
         Ok(())
+    }
+
+    // The statuses of another table: those that the lemmas have here where their certificates read nothing that differs, else by checking.
+    fn statuses_in<L: Ledger>(
+        &self,
+        library: &Library,
+        proofs: &[Option<Cert>],
+        steps: &mut Steps<L>,
+    ) -> Result<Items<LemmaStatus>, LemmaError>
+        requires few { length library.now.entries < 4294967295 }
+        requires counted { AreCounted proofs.now }
+        ensures statuses { IfOk result (λ ss. ss ≡ statuses_from library.now proofs.now 0 library.now.entries) }
+        ensures err { IfErr result (λ e. e ≡ LemmaError.Memory) }
+        ensures cost { IfOk result (λ _. OnlyAffected self.now (record { library = library.now; proofs = proofs.now }) steps.old steps.new) }
+    {
+        let entries = library.entries.as_slice();
+        let changes = changes_between(self.alloc, self.library.entries.as_slice(), entries)?;
+        let mut statuses = Items::new(self.alloc);
+        for i in 0..entries.len() {
+            let status = self.status_in(
+                &changes,
+                library,
+                i as u32,
+                &entries[i],
+                proof_at(proofs, i),
+                steps,
+            )?;
+            statuses.push(status)?;
+        }
+        Ok(statuses)
+    }
+
+    fn status_in<L: Ledger>(
+        &self,
+        changes: &Changes,
+        library: &Library,
+        place: u32,
+        entry: &Item,
+        proof: Option<&Cert>,
+        steps: &mut Steps<L>,
+    ) -> Result<LemmaStatus, LemmaError>
+        requires told { TellsChanges self.now.library.entries library.now.entries changes.now }
+        requires within { place ≤ length library.now.entries }
+        requires counted { (cert : Cert) → option_copied proof ≡ Some cert → IsCounted cert }
+        ensures status { IfOk result (λ s. s ≡ status_at library.now place entry.now (option_copied proof.entry)) }
+        ensures err { IfErr result (λ e. e ≡ LemmaError.Memory) }
+        ensures cost { IfOk result (λ _. Costs self.now library.now place entry.now (option_copied proof.entry) steps.old steps.new) }
+    {
+        match (entry, proof) {
+            (Item::Lemma(lemma), Some(cert)) => {
+                self.lemma_status_in(changes, library, place, lemma, cert, steps)
+            }
+            _ => Ok(LemmaStatus::Missing),
+        }
+    }
+
+    fn lemma_status_in<L: Ledger>(
+        &self,
+        changes: &Changes,
+        library: &Library,
+        place: u32,
+        lemma: &Lemma,
+        cert: &Cert,
+        steps: &mut Steps<L>,
+    ) -> Result<LemmaStatus, LemmaError>
+        requires told { TellsChanges self.now.library.entries library.now.entries changes.now }
+        requires within { place ≤ length library.now.entries }
+        requires counted { IsCounted cert.now }
+        ensures status { IfOk result (λ s. s ≡ status_at library.now place (Item.Lemma lemma.now) (Some cert.now)) }
+        ensures err { IfErr result (λ e. e ≡ LemmaError.Memory) }
+        ensures cost { IfOk result (λ _. Costs self.now library.now place (Item.Lemma lemma.now) (Some cert.now) steps.old steps.new) }
+    {
+        match self.kept(changes, library, place, lemma, cert) {
+            Some(status) => Ok(status),
+            None => checked(self.alloc, library, place, lemma, cert, steps),
+        }
+    }
+
+    // The status that the lemma has here, if it has this certificate and that reads nothing that differs.
+    fn kept(
+        &self,
+        changes: &Changes,
+        library: &Library,
+        place: u32,
+        lemma: &Lemma,
+        cert: &Cert,
+    ) -> Option<LemmaStatus>
+        requires told { TellsChanges self.now.library.entries library.now.entries changes.now }
+        requires within { place ≤ length library.now.entries }
+        ensures status { IfSome result (λ s. s ≡ status_at library.now place (Item.Lemma lemma.now) (Some cert.now)) }
+        ensures affected { result ≡ None → IsAffected self.now library.now place lemma.now cert.now }
+    {
+        let entries = self.library.entries.as_slice();
+        let old = place_of(entries, &lemma.name);
+        let status = self.status_there(old, lemma, cert)?;
+        let after = &library.entries.as_slice()[..place as usize];
+        if reads_change(changes, &entries[..old], after, lemma, cert) {
+            return None;
+        }
+        Some(status)
+    }
+
+    // The status in a place, if the lemma stands there with this certificate.
+    #[tactic(auto, using(crate::proofs::Unaffected::no_gap))]
+    fn status_there(&self, place: usize, lemma: &Lemma, cert: &Cert) -> Option<LemmaStatus>
+        ensures status { IfSome result (λ s. slice_get (anew self.now) place ≡ Some s) }
+        ensures lemma { IfSome result (λ s. slice_get self.now.library.entries place ≡ Some (Item.Lemma lemma.now)) }
+        ensures cert { IfSome result (λ s. proof_at self.now.proofs place ≡ Some cert.now) }
+        ensures none { result ≡ None → slice_get self.now.library.entries place ≡ Some (Item.Lemma lemma.now) → proof_at self.now.proofs place ≡ Some cert.now → ⊥ }
+    {
+        let here = at(self.library.entries.as_slice(), place);
+        if is_there(here, lemma) && has_cert(proof_at(self.proofs.as_slice(), place), cert) {
+            return at(self.statuses.as_slice(), place).copied();
+        }
+        None
     }
 
     /// Moves an entry to a place, counted from 0; the others keep their order.
@@ -203,7 +325,7 @@ impl Lemmas {
         ensures err { IfErr result (λ e. (e ≡ LemmaError.Memory) ⊎ (move_refusal self.old name.now to ≡ Some e)) }
         ensures same { OnErr result (self.new ≡ self.old) }
         ensures refused { IfErr result (λ e. (e ≡ LemmaError.Memory) ⊎ (steps.new ≡ steps.old)) }
-        ensures cost { OnOk result (steps.new ≡ steps.old + anew_checks self.new) }
+        ensures cost { OnOk result (OnlyAffected self.old self.new steps.old steps.new) }
     {
         let place = place_of(self.library.entries.as_slice(), name);
         let mut library = self.library.copy(self.alloc)?;
@@ -256,4 +378,22 @@ fn status_from(entries: &[Item], statuses: &[LemmaStatus], name: &Name) -> Optio
         }
     }
     None
+}
+
+fn is_there(entry: Option<&Item>, lemma: &Lemma) -> bool
+    ensures { IsTrue result ↔ (option_copied entry.entry ≡ Some (Item.Lemma lemma.now)) }
+{
+    match entry {
+        Some(Item::Lemma(there)) => same_lemma(there, lemma),
+        _ => false,
+    }
+}
+
+fn has_cert(proof: Option<&Cert>, cert: &Cert) -> bool
+    ensures { IsTrue result ↔ (option_copied proof.entry ≡ Some cert.now) }
+{
+    match proof {
+        Some(proof) => same_cert(proof, cert),
+        None => false,
+    }
 }
