@@ -12,3 +12,4 @@ pub mod Whole
 pub mod Sound
 pub mod Changed
 pub mod Unaffected
+pub mod Reaching

@@ -2,6 +2,6 @@ pub mod States
 pub mod Table
 pub mod Refusals
 pub mod Citing
-pub mod Sound
 pub mod Affected
 pub mod Differing
+pub mod Sound
