@@ -319,3 +319,14 @@ fn a_project_weighs_at_most_2000000(rt: HostRuntime) -> Result<(), Fail> {
     let end = "ok 489\nok 490\nE8 full weight 2002048\nok 491\nok 492\nok 493\n";
     ends_with(&rt, alloc, 1, script.as_str(), end)
 }
+
+#[test]
+fn a_frame_of_12000_names_is_a_misfit(rt: HostRuntime) -> Result<(), Fail> {
+    let alloc = rt.alloc();
+    let names = nested(alloc, 11999, "y,", "y", "")?;
+    let script = format!(in alloc;
+        "var x : int\nvar y : int\nroot x:[true, true]\nstep main expand {names}\nstatus main"
+    )?;
+    let replies = "ok 1\nok 2\nok 3\nok 4\nok main misfit 8\n";
+    answers(&rt, alloc, &[(script.as_str(), 0, replies)])
+}

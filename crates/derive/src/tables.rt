@@ -1,5 +1,6 @@
 // Definitions and lemmas: the table, its order, what is in use, and what certificates cite.
-use crate::tests::answers;
+use crate::tests::{answers, nested};
+use std::alloc::Global;
 use std::process::Abort;
 use std::test::Fail;
 
@@ -79,4 +80,28 @@ fn tests_of_the_table_in_their_order(rt: HostRuntime) -> Result<(), Fail> {
             ),
         ],
     )
+}
+
+// `true`, and so many more times.
+fn truths(alloc: Global, more: u32) -> Result<String, Fail> {
+    nested(alloc, more, "true, ", "true", "")
+}
+
+#[test]
+fn many_formulas_of_a_lemma_are_past_the_limits_together(rt: HostRuntime) -> Result<(), Fail> {
+    let alloc = rt.alloc();
+    let (most, more, many) = (
+        truths(alloc, 62)?,
+        truths(alloc, 63)?,
+        truths(alloc, 10799)?,
+    );
+    let lemmas = format!(in alloc;
+        "lemma a() : {most} |-\nlemma b() : {more} |-\nlemma c() : {many} |-\nlemma d() : |- {many}\n"
+    )?;
+    let cited =
+        "prove lemma e lemma a() ; trueR\nstatus lemma e\nprove lemma e lemma b() ; trueR\nstatus lemma e\nprove lemma e lemma c() ; trueR\nstatus lemma e\nprove lemma e lemma d() ; trueR\nstatus lemma e\nprove lemma e lemma c(1) ; trueR\nstatus lemma e";
+    let script = format!(in alloc; "{lemmas}lemma e() : |- true\n{cited}")?;
+    let replies =
+        "ok 1\nok 2\nok 3\nok 4\nok 5\nok 6\nok lemma e good\nok 7\nok lemma e pending bad 1 7\nok 8\nok lemma e pending bad 1 7\nok 9\nok lemma e pending bad 1 7\nok 10\nok lemma e pending bad 1 6\n";
+    answers(&rt, alloc, &[(script.as_str(), 0, replies)])
 }

@@ -7,3 +7,4 @@ pub mod Joined
 pub mod Typed
 pub mod Goals
 pub mod Cites
+pub mod Long

@@ -1,5 +1,5 @@
 -- Formulas joined by `or`, and what a sequent says as a formula.
-use Rattle.std.specs.Prelude.{List, [], ◌∷◌, Option, Some, None}
+use Rattle.std.specs.Prelude.{◌<◌, ◌⊎◌, List, [], ◌∷◌, length, Option, Some, None}
 use Rattle.rw_terms.specs.declared.term.Formula.{Formula}
 use Rattle.rw_terms.specs.declared.term.Formula.TheVariants.{False, And, Or, Imp}
 use Rattle.rw_terms.specs.declared.sequent.Sequent.{Sequent}
@@ -18,6 +18,10 @@ disj (f ∷ fs) = disj_with f fs
 -- where each left formula holds, some right formula holds
 abbrev pub statement : Sequent → Formula
 statement q = Imp (conj q.left) (disj q.right)
+
+-- more formulas stand on a side than a formula may be deep
+abbrev pub IsLong : Sequent → Type 0
+IsLong q = (64 < length q.left) ⊎ (64 < length q.right)
 
 -- one more formula behind those that are joined, if any are
 abbrev pub and_also : Option Formula → Formula → Formula
