@@ -53,9 +53,9 @@ pub fn expand(
     ensures err { IfErr result (IsRefusal (expand_law context.now spec.now names.now)) }
 {
     refuse(expand_cause(&context.scope, spec, names))?;
+    refuse_long(spec.frame.as_slice(), names)?;
     let post = expanded_post(alloc, spec, names)?;
     let frame = wider(alloc, spec, names)?;
-    refuse_long(frame.as_slice())?;
     refuse_twice(names)?;
     let pre = boxed(alloc, &spec.pre)?;
     Ok(Premises {
@@ -73,12 +73,12 @@ fn wider(alloc: Global, spec: &Spec, names: &[Name]) -> Result<Items<Name>, Allo
     Ok(frame)
 }
 
-// Refuses a frame that has too many names.
-fn refuse_long(frame: &[Name]) -> Result<(), ApplyError>
-    ensures ok { IfOk result (λ _. nat_le (length frame.now) 64 ≡ true) }
-    ensures err { IfErr result (λ e. (nat_le (length frame.now) 64 ≡ false) × (e ≡ ApplyError.Misfit Misfit.TooLarge)) }
+// Refuses names that the frame has no room for.
+fn refuse_long(frame: &[Name], names: &[Name]) -> Result<(), ApplyError>
+    ensures ok { IfOk result (λ _. nat_le (length (frame.now ++ names.now)) 64 ≡ true) }
+    ensures err { IfErr result (λ e. (nat_le (length (frame.now ++ names.now)) 64 ≡ false) × (e ≡ ApplyError.Misfit Misfit.TooLarge)) }
 {
-    if frame.len() <= MOST_NAMES {
+    if frame.len() + names.len() <= MOST_NAMES {
         Ok(())
     } else {
         Err(ApplyError::Misfit(Misfit::TooLarge))
