@@ -1,5 +1,5 @@
 -- Each status that is shown is that of checking anew, and a derivation is shown closed exactly where it is.
-use Rattle.std.proofs.Common.{◌≡◌, ◌↔◌, ℕ, ◌+◌, Bool, true, false, if◌then◌else◌, length, List, [], ◌∷◌, ◌++◌, Option, Some, None, refl, sym, ap, ◌∙◌, get_or, arith}
+use Rattle.std.proofs.Common.{◌≡◌, ◌↔◌, inl, inr, ℕ, ◌+◌, Bool, true, false, if◌then◌else◌, length, List, [], ◌∷◌, ◌++◌, Option, Some, None, refl, sym, ap, ◌∙◌, get_or, arith}
 use Rattle.std.specs.Prelude.{codes}
 use Rattle.rw_terms.specs.Validity.{Each}
 use Rattle.rw_nodes.specs.declared.edit.Edit.{Edit}
@@ -22,7 +22,7 @@ use Rattle.rw_reader.specs.Reading.{Reading, reads, fault, reading}
 use Rattle.rw_project.specs.Texts.{is_good, is_good_state, closed_text, not_closed_text, lemma_open_text, lemmas_text, closing_text}
 use Rattle.rw_project.specs.Goals.{goal_texts, mark_of, lemma_of}
 use Rattle.rw_project.specs.Session.{History, most_weight, no_history, past_limits, refusal_after, edited, told_of, told_lemma, closing_of, no_lines, reply, reply_by, reply_to, is_silent, after, history_from, history_of}
-use Rattle.rw_project.specs.Headline.{StatusIsAnew, Headline}
+use Rattle.rw_project.specs.Headline.{AsksStatus, StatusIsAnew, Headline}
 
 -- what is told of the first node that is not good is no text of a closed derivation
 fourth_differs : (rest : List ℕ) → (codes "ok not closed " ++ rest) ≡ codes "ok closed" → ⊥
@@ -125,10 +125,10 @@ reply_told : (history : History) (line : List ℕ) (r : Request) → reading lin
 unfolding reply
 reply_told history line r asks = ap (reply_by history (length line)) asks
 
--- what the reply to a request for the status is
-status_told : (history : History) (line : List ℕ) → reading line ≡ reads request.Status → (reply history line).end ≡ closing_of history.0
-unfolding reply
-status_told history line asks = ap (λ r. (reply_by history (length line) r).end) asks
+-- what the last line of the reply to a request for the status of the project is, in both forms
+status_told : (history : History) (line : List ℕ) → AsksStatus line → (reply history line).end ≡ closing_of history.0
+status_told history line (inl asks) = ap (λ r. r.end) (reply_told history line request.Status asks)
+status_told history line (inr asks) = ap (λ r. r.end) (reply_told history line request.StatusAll asks)
 
 pub status_anew : (history : History) (line : List ℕ) → IsGood most_weight history.0 → StatusIsAnew history line
 status_anew history line good = record {

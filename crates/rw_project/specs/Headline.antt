@@ -1,5 +1,5 @@
 -- What it means that a project is shown closed.
-use Rattle.std.specs.Prelude.{◌≡◌, ℕ, List, ◌∷◌, ◌++◌, ◌↔◌}
+use Rattle.std.specs.Prelude.{◌≡◌, ◌⊎◌, ℕ, List, ◌∷◌, ◌++◌, ◌↔◌}
 use Rattle.rw_nodes.specs.declared.edit.Place.{Place}
 use Rattle.rw_tree.specs.Anew.{anew}
 use Rattle.rw_tree.specs.Uses.{IsClosed}
@@ -10,16 +10,20 @@ use Rattle.rw_project.specs.Texts.{closed_text}
 use Rattle.rw_project.specs.Goals.{goal_texts, mark_of, lemma_of}
 use Rattle.rw_project.specs.Session.{History, history_of, reply, told, told_of, told_lemma, closing_of, all_texts, no_lines}
 
--- a line asks for the status, and the reply shows the project closed
+-- a line asks for the status of the project: alone, or behind that of each node and each lemma
+abbrev pub AsksStatus : List ℕ → Type 0
+AsksStatus line = (reading line ≡ reads request.Status) ⊎ (reading line ≡ reads request.StatusAll)
+
+-- a line asks for the status of the project, and the last line of the reply shows it closed
 pub record ShowsClosed (history : History) (line : List ℕ) : Type 0 where
-  pub asks : reading line ≡ reads request.Status
+  pub asks : AsksStatus line
   pub shows : (reply history line).end ≡ closed_text
 
 -- What is shown for a line after a history: each status, specification and obligation is that of checking the live edits anew, the
 -- project is shown closed exactly where it is, and then the collected program refines the root.
 pub record StatusIsAnew (history : History) (line : List ℕ) : Type 0 where
-  pub status : reading line ≡ reads request.Status → (reply history line).end ≡ closing_of history.0
-  pub exactly : reading line ≡ reads request.Status → (reply history line).end ≡ closed_text ↔ IsClosed history.0
+  pub status : AsksStatus line → (reply history line).end ≡ closing_of history.0
+  pub exactly : AsksStatus line → (reply history line).end ≡ closed_text ↔ IsClosed history.0
   pub at_place : (place : Place) → reading line ≡ reads (request.StatusAt place) → reply history line ≡ told_of history place no_lines (mark_of place (anew history.0).nodes)
   pub lemma : (x : List ℕ) → reading line ≡ reads (request.StatusLemma x) → reply history line ≡ told_lemma history x (lemma_of x (anew history.0).lemmas)
   pub each : reading line ≡ reads request.StatusAll → reply history line ≡ told history (all_texts history.0) (closing_of history.0)
