@@ -1,9 +1,15 @@
 -- Each status that is shown is that of checking anew, and a derivation is shown closed exactly where it is.
 use Rattle.std.proofs.Common.{◌≡◌, ◌↔◌, inl, inr, ℕ, ◌+◌, Bool, true, false, if◌then◌else◌, length, List, [], ◌∷◌, ◌++◌, Option, Some, None, refl, sym, ap, ◌∙◌, get_or, arith}
-use Rattle.std.specs.Prelude.{codes}
+use Rattle.std.specs.Prelude.{codes, decimal, nat_le, nat_lt, ◌<◌, ◌^◌, ◌%◌}
+use Rattle.std.proofs.lemmas.Bool.{leb-false}
+use Rattle.std.proofs.lemmas.Fmt.{decimal_by_steps}
 use Rattle.rw_terms.specs.Validity.{Each}
 use Rattle.rw_nodes.specs.declared.edit.Edit.{Edit}
+use Rattle.rw_nodes.specs.declared.edit.TreeName.{TreeName}
+use Rattle.rw_nodes.specs.declared.edit.TreeName.TheVariants as tree
 use Rattle.rw_tree.specs.declared.refusal.EditRefusal.{EditRefusal}
+use Rattle.rw_tree.specs.declared.refusal.EditRefusal.TheVariants as refusal
+use Rattle.rw_tree.specs.declared.refusal.Which.TheVariants as which
 use Rattle.rw_tree.specs.declared.status.NodeMark.{NodeMark}
 use Rattle.rw_tree.specs.declared.status.Status.{Status}
 use Rattle.rw_tree.specs.declared.status.Status.TheVariants as status
@@ -19,7 +25,7 @@ use Rattle.rw_nodes.specs.declared.edit.Place.{Place}
 use Rattle.rw_reader.specs.declared.request.Request.{Request}
 use Rattle.rw_reader.specs.declared.request.Request.TheVariants as request
 use Rattle.rw_reader.specs.Reading.{Reading, reads, fault, reading}
-use Rattle.rw_project.specs.Texts.{is_good, is_good_state, closed_text, not_closed_text, lemma_open_text, lemmas_text, closing_text}
+use Rattle.rw_project.specs.Texts.{tree_text, kids_text, status_text, refusal_text, is_good, is_good_state, closed_text, not_closed_text, lemma_open_text, lemmas_text, closing_text}
 use Rattle.rw_project.specs.Goals.{goal_texts, mark_of, lemma_of}
 use Rattle.rw_project.specs.Session.{History, most_weight, no_history, past_limits, refusal_after, edited, told_of, told_lemma, closing_of, no_lines, reply, reply_by, reply_to, is_silent, after, history_from, history_of}
 use Rattle.rw_project.specs.Headline.{AsksStatus, StatusIsAnew, Headline}
@@ -130,15 +136,89 @@ status_told : (history : History) (line : List ℕ) → AsksStatus line → (rep
 status_told history line (inl asks) = ap (λ r. r.end) (reply_told history line request.Status asks)
 status_told history line (inr asks) = ap (λ r. r.end) (reply_told history line request.StatusAll asks)
 
+-- no other reply ends in the text of a closed derivation
+capital_differs : (rest : List ℕ) → (69 ∷ rest) ≡ closed_text → ⊥
+capital_differs rest e = let at : get_or (69 ∷ rest) 0 0 ≡ get_or closed_text 0 0 = ap (λ l. get_or l 0 0) e in absurd (omega (arith, at))
+
+fourth_is : (c : ℕ) (rest : List ℕ) → (codes "ok " ++ c ∷ rest) ≡ closed_text → c ≡ 99
+fourth_is c rest e = ap (λ l. get_or l 3 0) e
+
+refusal_differs : (r : EditRefusal) → refusal_text r ≡ closed_text → ⊥
+refusal_differs (refusal.Unknown x) e = capital_differs _ e
+refusal_differs (refusal.Duplicate x) e = capital_differs _ e
+refusal_differs (refusal.Sort part) e = capital_differs _ e
+refusal_differs (refusal.NoNode place) e = capital_differs _ e
+refusal_differs (refusal.NoObligation k) e = capital_differs _ e
+refusal_differs (refusal.Limit w n) e = capital_differs _ e
+refusal_differs (refusal.Full w) e = capital_differs _ e
+refusal_differs (refusal.Order x) e = capital_differs _ e
+refusal_differs (refusal.InUse x s) e = capital_differs _ e
+refusal_differs refusal.Memory e = let at : 0 ≡ 111 = ap (λ l. get_or l 0 0) e in absurd (omega (arith, at))
+
+-- a number begins with a digit
+abbrev BeginsWithDigit : List ℕ → Type 0
+BeginsWithDigit [] = ⊥
+BeginsWithDigit (c ∷ cs) = c < 58
+
+number_begins : (n : ℕ) → n < 2 ^ 64 → BeginsWithDigit (decimal n)
+number_begins = decimal_by_steps (λ m ds. BeginsWithDigit ds) (λ m l. omega (arith, l)) (λ m ds l h. longer ds (48 + m % 10) h)
+  where
+    longer : (ds : List ℕ) (c : ℕ) → BeginsWithDigit ds → BeginsWithDigit (ds ++ c ∷ [])
+    longer [] c h = absurd h
+    longer (d ∷ ds) c h = h
+
+number_differs : (ds : List ℕ) → BeginsWithDigit ds → (codes "ok " ++ ds) ≡ closed_text → ⊥
+number_differs [] h e = h
+number_differs (c ∷ cs) h e = let is = fourth_is c cs e in absurd (omega (arith, h, is))
+
+few_edits : (edits bytes : ℕ) → past_limits edits bytes ≡ None → edits + 1 < 2 ^ 64
+unfolding past_limits
+few_edits edits bytes e = go (nat_le 65536 edits) refl e
+  where
+    go : (b : Bool) → nat_le 65536 edits ≡ b → (if b then Some (refusal.Limit which.Edits 65536) else if nat_lt 16777216 bytes then Some (refusal.Limit which.Bytes 16777216) else None) ≡ None → edits + 1 < 2 ^ 64
+    go true is e = absurd (cc)
+    go false is e = let few : edits < 65536 = leb-false 65536 edits is in omega (arith, few)
+
+edit_differs : (history : History) (bytes : ℕ) (e : Edit) (o : Option EditRefusal) → refusal_after history bytes e ≡ o → (edited history bytes e o).end ≡ closed_text → ⊥
+edit_differs history bytes e None is same =
+    number_differs (decimal (length history.0 + 1))
+    (number_begins (length history.0 + 1) (few_edits (length history.0) (history.1 + bytes) (first_told (past_limits (length history.0) (history.1 + bytes)) (refusal_of most_weight history.0 e) is).0)) same
+edit_differs history bytes e (Some r) is same = refusal_differs r same
+
+place_differs : (tree : TreeName) (kids space rest : List ℕ) → (codes "ok " ++ (tree_text tree ++ kids ++ space ++ rest)) ≡ closed_text → ⊥
+place_differs tree.Main kids space rest e = let is = fourth_is 109 _ e in absurd (omega (arith, is))
+
+told_differs : (history : History) (place : Place) (lines : NodeMark → List (List ℕ)) (o : Option NodeMark) → (told_of history place lines o).end ≡ closed_text → ⊥
+told_differs history place lines None e = refusal_differs (refusal.NoNode place) e
+told_differs history place lines (Some mark) e = place_differs mark.place.tree (kids_text mark.place.path.kids) (codes " ") (status_text mark.status) e
+
+lemma_differs : (history : History) (x : List ℕ) (o : Option LemmaMark) → (told_lemma history x o).end ≡ closed_text → ⊥
+lemma_differs history x None e = refusal_differs (refusal.Unknown x) e
+lemma_differs history x (Some mark) e = let is = fourth_is 108 _ e in absurd (omega (arith, is))
+
+only_asked : (history : History) (line : List ℕ) → (reply history line).end ≡ closed_text → AsksStatus line
+unfolding reply
+only_asked history line e = go (reading line) refl e
+  where
+    go : (r : Reading) → reading line ≡ r → (reply_by history (length line) r).end ≡ closed_text → AsksStatus line
+    go (fault offset) is e = absurd (capital_differs _ e)
+    go (reads (request.Edit edit)) is e = absurd (edit_differs history (length line) edit (refusal_after history (length line) edit) refl e)
+    go (reads request.Status) is e = inl is
+    go (reads request.StatusAll) is e = inr is
+    go (reads (request.StatusAt place)) is e = absurd (told_differs history place no_lines (mark_of place (anew history.0).nodes) e)
+    go (reads (request.StatusLemma x)) is e = absurd (lemma_differs history x (lemma_of x (anew history.0).lemmas) e)
+    go (reads (request.Goal place)) is e = absurd (told_differs history place goal_texts (mark_of place (anew history.0).nodes) e)
+
 pub status_anew : (history : History) (line : List ℕ) → IsGood most_weight history.0 → StatusIsAnew history line
 status_anew history line good = record {
   status = status_told history line;
+  alone = only_asked history line;
   exactly = λ asks. (λ e. (closed_exactly history.0).0 (sym (status_told history line asks) ∙ e), λ closed. status_told history line asks ∙ (closed_exactly history.0).1 closed);
   at_place = λ place asks. reply_told history line (request.StatusAt place) asks;
   lemma = λ x asks. reply_told history line (request.StatusLemma x) asks;
   each = λ asks. reply_told history line request.StatusAll asks;
   goal = λ place asks. reply_told history line (request.Goal place) asks;
-  refined = λ shows. closed_refined most_weight history.0 good ((closed_exactly history.0).0 (sym (status_told history line shows.asks) ∙ shows.shows));
+  refined = λ shows. closed_refined most_weight history.0 good ((closed_exactly history.0).0 (sym (status_told history line (only_asked history line shows)) ∙ shows));
 }
 
 -- the headline, for any session

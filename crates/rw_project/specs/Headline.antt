@@ -14,16 +14,16 @@ use Rattle.rw_project.specs.Session.{History, history_of, reply, told, told_of, 
 abbrev pub AsksStatus : List ℕ → Type 0
 AsksStatus line = (reading line ≡ reads request.Status) ⊎ (reading line ≡ reads request.StatusAll)
 
--- a line asks for the status of the project, and the last line of the reply shows it closed
-pub record ShowsClosed (history : History) (line : List ℕ) : Type 0 where
-  pub asks : AsksStatus line
-  pub shows : (reply history line).end ≡ closed_text
+-- the last line of the reply shows the project closed
+abbrev pub ShowsClosed : History → List ℕ → Type 0
+ShowsClosed history line = (reply history line).end ≡ closed_text
 
--- What is shown for a line after a history: each status, specification and obligation is that of checking the live edits anew, the
--- project is shown closed exactly where it is, and then the collected program refines the root.
+-- What is shown for a line after a history: each status, specification and obligation is that of checking the live edits anew. The
+-- project is shown closed to lines alone that ask for its status, and to these exactly where it is; then the collected program refines the root.
 pub record StatusIsAnew (history : History) (line : List ℕ) : Type 0 where
   pub status : AsksStatus line → (reply history line).end ≡ closing_of history.0
-  pub exactly : AsksStatus line → (reply history line).end ≡ closed_text ↔ IsClosed history.0
+  pub alone : ShowsClosed history line → AsksStatus line
+  pub exactly : AsksStatus line → ShowsClosed history line ↔ IsClosed history.0
   pub at_place : (place : Place) → reading line ≡ reads (request.StatusAt place) → reply history line ≡ told_of history place no_lines (mark_of place (anew history.0).nodes)
   pub lemma : (x : List ℕ) → reading line ≡ reads (request.StatusLemma x) → reply history line ≡ told_lemma history x (lemma_of x (anew history.0).lemmas)
   pub each : reading line ≡ reads request.StatusAll → reply history line ≡ told history (all_texts history.0) (closing_of history.0)
