@@ -105,6 +105,25 @@ fn removed(table: &mut Lemmas, name: &Name) -> bool {
     table.remove(name).is_ok()
 }
 
+// Whether the lemma has a certificate that cites one lemma.
+fn cites_one(table: &Lemmas, name: &Name) -> bool {
+    match table.proof(name) {
+        Some(cert) => match table.cites(cert) {
+            Ok(names) => names.len() == 1,
+            Err(_) => false,
+        },
+        None => false,
+    }
+}
+
+// Whether the certificate is there in a copy of the table too.
+fn is_copied(table: &Lemmas, name: &Name) -> bool {
+    match table.copy() {
+        Ok(copy) => cites_one(&copy, name),
+        Err(_) => false,
+    }
+}
+
 // `Always`, `Shown` by its definition, and `Again` by `Shown`.
 fn filled<L: Ledger>(alloc: Global, steps: &mut Steps<L>) -> Result<Lemmas, Fail> {
     let mut table = Lemmas::new(alloc);
@@ -131,6 +150,8 @@ fn played<L: Ledger>(
     let shown = Name::read(b"Shown")?;
     let again = Name::read(b"Again")?;
     let mut table = filled(alloc, &mut steps)?;
+    done.push(cites_one(&table, &shown))?;
+    done.push(is_copied(&table, &again))?;
     done.push(removed(&mut table, &shown))?;
     statuses.push(table.status(&shown))?;
     statuses.push(table.status(&again))?;
@@ -148,7 +169,10 @@ fn lemmas_have_statuses(rt: HostRuntime) -> Result<(), Fail> {
     let mut done = Items::new(alloc);
     let mut statuses = Items::new(alloc);
     played::<Brand>(alloc, Blank::new(1), &mut done, &mut statuses)?;
-    assert_eq!(rt; done.as_slice(), [false, true, true, true].as_slice());
+    assert_eq!(rt;
+        done.as_slice(),
+        [false, true, false, true, true, true].as_slice()
+    );
     let good = Some(LemmaStatus::Good);
     let bad = Some(LemmaStatus::Bad(1, 0, 8));
     assert_eq!(rt; statuses.as_slice(), [good, good, bad, None].as_slice());

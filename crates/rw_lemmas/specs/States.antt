@@ -8,7 +8,7 @@ use Rattle.rw_citations.specs.Goal.{goal_of}
 use Rattle.rw_sequents.specs.declared.line.Cert.{Cert}
 use Rattle.rw_sequents.specs.declared.line.Verdict.{Verdict}
 use Rattle.rw_sequents.specs.declared.line.Verdict.TheVariants as told
-use Rattle.rw_sequents.specs.After.{verdict, checked, IsCounted}
+use Rattle.rw_sequents.specs.After.{verdict, IsCounted}
 use Rattle.rw_library.specs.Entries.{is_entry, is_lemma}
 use Rattle.rw_lemmas.specs.declared.status.LemmaStatus.{LemmaStatus}
 use Rattle.rw_lemmas.specs.declared.status.LemmaStatus.TheVariants as status
@@ -32,21 +32,11 @@ module _ (library : Library) where
   status_at k (item.Lemma l) None = status.Missing
   status_at k (item.Lemma l) (Some cert) = by_verdict (verdict library k (goal_of l) cert)
 
-  -- how many lines of its certificate are checked
-  abbrev pub checked_at : ℕ → Item → Option Cert → ℕ
-  checked_at k (item.Definition d) o = 0
-  checked_at k (item.Lemma l) None = 0
-  checked_at k (item.Lemma l) (Some cert) = checked library k (goal_of l) cert
-
   module _ (proofs : List (Option Cert)) where
     -- those of entries from a place on
     abbrev pub statuses_from : ℕ → List Item → List LemmaStatus
     statuses_from k [] = []
     statuses_from k (e ∷ es) = status_at k e (proof_at proofs k) ∷ statuses_from (k + 1) es
-
-    abbrev pub checked_from : ℕ → List Item → ℕ
-    checked_from k [] = 0
-    checked_from k (e ∷ es) = checked_at k e (proof_at proofs k) + checked_from (k + 1) es
 
 -- the status of a lemma among the entries from a place on, by the statuses of all
 abbrev pub status_from : List LemmaStatus → ℕ → List Item → List ℕ → Option LemmaStatus

@@ -6,7 +6,7 @@ use Rattle.rw_goals.specs.declared.library.Library.{Library}
 use Rattle.rw_sequents.specs.declared.line.Cert.{Cert}
 use Rattle.rw_library.specs.Entries.{entry_name, place_of}
 use Rattle.rw_lemmas.specs.declared.status.LemmaStatus.{LemmaStatus}
-use Rattle.rw_lemmas.specs.States.{AreCounted, statuses_from, checked_from, status_from, proof_from}
+use Rattle.rw_lemmas.specs.States.{AreCounted, statuses_from, status_from, proof_from}
 
 pub record Table : Type 0 where
   pub library : Library
@@ -25,10 +25,6 @@ pub record IsTable (library : Library) (proofs : List (Option Cert)) : Type 0 wh
 -- the statuses of checking each lemma anew
 abbrev pub anew : Table → List LemmaStatus
 anew t = statuses_from t.library t.proofs 0 t.library.entries
-
--- how many lines this checks
-abbrev pub anew_checks : Table → ℕ
-anew_checks t = checked_from t.library t.proofs 0 t.library.entries
 
 -- the status of a lemma
 abbrev pub status_of : Table → List ℕ → Option LemmaStatus

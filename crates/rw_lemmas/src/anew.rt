@@ -2,8 +2,9 @@
 
 ghost use Rattle.std.specs.Prelude.{◌≡◌, ◌+◌, IfOk, IfErr, Some, option_copied};
 ghost use Rattle.rw_goals.specs.declared.library.Item.{Item};
-ghost use Rattle.rw_sequents.specs.After.{IsCounted};
-ghost use Rattle.rw_lemmas.specs.States.{proof_at, status_at, checked_at};
+ghost use Rattle.rw_citations.specs.Goal.{goal_of};
+ghost use Rattle.rw_sequents.specs.After.{IsCounted, checked};
+ghost use Rattle.rw_lemmas.specs.States.{proof_at, status_at};
 
 use crate::error::LemmaError;
 use crate::status::{LemmaStatus, by_verdict};
@@ -38,7 +39,7 @@ pub fn checked<L: Ledger>(
     requires { IsCounted cert.now }
     ensures status { IfOk result (λ s. s ≡ status_at library.now place (Item.Lemma lemma.now) (Some cert.now)) }
     ensures err { IfErr result (λ e. e ≡ LemmaError.Memory) }
-    ensures cost { IfOk result (λ _. steps.new ≡ steps.old + checked_at library.now place (Item.Lemma lemma.now) (Some cert.now)) }
+    ensures cost { IfOk result (λ _. steps.new ≡ steps.old + checked library.now place (goal_of lemma.now) cert.now) }
 {
     let goal = goal_of(alloc, lemma)?;
     let verdict = check(alloc, library, place, &goal, cert, steps)?;
