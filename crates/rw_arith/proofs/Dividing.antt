@@ -1,5 +1,6 @@
 -- A polynomial that is at least 0, divided by a positive number, is at least 0.
 use Rattle.std.proofs.Common.{◌≡◌, ◌≢◌, ℕ, zero, suc, ◌+◌, ◌*◌, ◌<◌, ◌≤◌, Bool, true, false, cond, not, ◌&&◌, ℤ, pos, negsuc, neg_ℤ, ◌+ℤ◌, ◌-ℤ◌, ◌*ℤ◌, ◌≤ℤ◌, ◌<ℤ◌, List, [], ◌∷◌, map, refl, sym, ◌∙◌, ap, subst, true≢false, arith}
+use Rattle.std.proofs.lemmas.Bool.{and_parts}
 use Rattle.std.specs.List.{list_all, filter}
 use Rattle.std.proofs.lemmas.Int.{ints}
 use Rattle.std.proofs.Math.IntN.{zero-*ℤ, *ℤ_comm}
@@ -12,7 +13,6 @@ use Rattle.rw_arith.specs.declared.poly.Expansion.TheVariants.{Polynomial, Unfit
 use Rattle.rw_arith.specs.Polynomials.{is_zero, has_atoms, is_product}
 use Rattle.rw_arith.specs.Lines.{divides, divides_all, quotient_of, is_there, quotients, is_positive, divided}
 use Rattle.rw_arith.specs.Values.{product_value, summand_value, polynomial_value, IfPolynomial}
-use Rattle.rw_arith.proofs.Same.{both_left, both_right}
 use Rattle.rw_arith.proofs.Integers.{spreads_left, groups}
 use Rattle.rw_arith.proofs.Values.{zero_is}
 use Rattle.rw_arith.proofs.ExpansionLaws.{times_one}
@@ -80,7 +80,7 @@ module _ (of_atom : Term → ℤ) where
     exact [] e = *ℤ_comm d (pos 0) ∙ zero-*ℤ d
     exact (s ∷ p) e =
         spreads_left d (one (quotient_of d s)) (val (map (quotient_of d) p))
-        ∙ (λ i. exact_one s (both_left (divides d s) _ e) i +ℤ exact p (both_right (divides d s) _ e) i)
+        ∙ (λ i. exact_one s (and_parts (divides d s) _ e).0 i +ℤ exact p (and_parts (divides d s) _ e).1 i)
 
     abbrev AtLeast : List Summand → Type 0
     AtLeast p = pos 0 ≤ℤ val p → pos 0 ≤ℤ val (map (quotient_of d) p)
@@ -119,7 +119,7 @@ module _ (of_atom : Term → ℤ) where
 
   divided_case : (b : Bool) (d : ℤ) (p : List Summand) → (is_positive d && divides_all d p) ≡ b → pos 0 ≤ℤ val p → IfPolynomial (cond b (Polynomial (quotients d p)) Unfit) (λ r. pos 0 ≤ℤ val r)
   divided_case true d p e h =
-      subst (λ z. pos 0 ≤ℤ z) (sym (kept_value (map (quotient_of d) p))) (at_least d (above_zero d (both_left (is_positive d) _ e)) p (both_right (is_positive d) _ e) h)
+      subst (λ z. pos 0 ≤ℤ z) (sym (kept_value (map (quotient_of d) p))) (at_least d (above_zero d (and_parts (is_positive d) _ e).0) p (and_parts (is_positive d) _ e).1 h)
   divided_case false d p e h = tt
 
   pub divided_at_least : (d : ℤ) (p : List Summand) → pos 0 ≤ℤ val p → IfPolynomial (divided d p) (λ r. pos 0 ≤ℤ val r)

@@ -1,4 +1,3 @@
-pub mod Same
 pub mod Steps
 pub mod Negations
 pub mod Expanding

@@ -1,14 +1,15 @@
 -- Products that are one by their counts have one value.
 use Rattle.std.proofs.Common.{◌≡◌, ℕ, zero, suc, ◌+◌, ◌<◌, Bool, true, false, cond, ◌&&◌, nat_eq, ℤ, pos, ◌*ℤ◌, List, [], ◌∷◌, length, refl, sym, ◌∙◌, ap, subst, true≢false, arith}
+use Rattle.std.proofs.lemmas.Bool.{and_parts}
 use Rattle.std.specs.List.{list_all}
 use Rattle.std.proofs.lemmas.List.Recursion.{is_count_by}
 use Rattle.std.proofs.lemmas.Bool.Decides.{Decides-eqb}
 use Rattle.rw_terms.specs.declared.term.Term.{Term}
-use Rattle.rw_arith.specs.Same.{same_term}
+use Rattle.rw_terms.specs.Same.{same_term}
 use Rattle.rw_arith.specs.Polynomials.{count, as_often, is_one_product}
 use Rattle.rw_arith.specs.Values.{product_value}
 use Rattle.rw_arith.specs.Laws.{OneProductLaw}
-use Rattle.rw_arith.proofs.Same.{term_told, term_self, both_left, both_right}
+use Rattle.rw_terms.proofs.Decides.{term_told, term_self}
 use Rattle.rw_arith.proofs.Integers.{swaps}
 
 -- the atoms without the first that is t
@@ -127,8 +128,8 @@ often ones others t h = cnt_is t ones ∙ (Decides-eqb (count t ones) (count t o
 counted : (ones others ts : List Term) → list_all (as_often ones others) ts ≡ true → (x : Term) → Holds x ts → cnt x ones ≡ cnt x others
 counted ones others [] h x k = absurd (omega arith)
 counted ones others (t ∷ ts) h x k =
-    counted_case ones others t x (cnt x ts) (same_term x t) refl (often ones others t (both_left (as_often ones others t) _ h)) (counted ones others ts (both_right (as_often ones others t) _ h) x) k
+    counted_case ones others t x (cnt x ts) (same_term x t) refl (often ones others t (and_parts (as_often ones others t) _ h).0) (counted ones others ts (and_parts (as_often ones others t) _ h).1 x) k
 
 pub one_product_law : OneProductLaw
 one_product_law of_atom ones others e =
-    one_value of_atom ones others ((Decides-eqb (length ones) (length others)).0 (both_left (nat_eq (length ones) (length others)) _ e)) (counted ones others ones (both_right (nat_eq (length ones) (length others)) _ e))
+    one_value of_atom ones others ((Decides-eqb (length ones) (length others)).0 (and_parts (nat_eq (length ones) (length others)) _ e).0) (counted ones others ones (and_parts (nat_eq (length ones) (length others)) _ e).1)

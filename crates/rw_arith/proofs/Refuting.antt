@@ -1,5 +1,6 @@
 -- Lines that refute: no two states make all left formulas true and all right ones false.
 use Rattle.std.proofs.Common.{◌≡◌, ℕ, zero, suc, ◌+◌, Bool, true, false, cond, not, ◌&&◌, ℤ, pos, negsuc, ◌+ℤ◌, ◌*ℤ◌, ◌≤◌, ◌≤ℤ◌, List, [], ◌∷◌, ◌++◌, drop, length, Option, Some, None, Result, Ok, Err, IfOk, refl, sym, ◌∙◌, ap, subst, true≢false, arith}
+use Rattle.std.proofs.lemmas.Bool.{and_parts}
 use Rattle.std.specs.List.{list_all, slice_get}
 use Rattle.std.proofs.lemmas.Int.{ints}
 use Rattle.std.proofs.lemmas.List.{drop_all}
@@ -26,7 +27,6 @@ use Rattle.rw_arith.specs.Given.{is_non_negative, left_allows_layer, left_allows
 use Rattle.rw_arith.specs.Lines.{numbered, passes, expansion_by, ref_allows, is_allowed, named, with_part, with_parts, sum_of, divided, line_expansion, made_by, if_made, all_made, is_negative, is_contradiction, refutes, fault_of, lines_fault, Refuted}
 use Rattle.rw_arith.specs.Values.{polynomial_value, IfPolynomial, integer}
 use Rattle.rw_arith.specs.Laws.{LeftSays}
-use Rattle.rw_arith.proofs.Same.{both_left, both_right}
 use Rattle.rw_arith.proofs.Values.{weaker, multiples_value}
 use Rattle.rw_arith.proofs.ExpansionLaws.{times_one}
 use Rattle.rw_arith.proofs.GivenLaws.{left_law, right_law}
@@ -59,8 +59,8 @@ of_nothing m z e = subst (λ y. pos 0 ≤ℤ y) (sym (ap (λ y. m *ℤ y) e ∙ 
 
 left_multiple : (m z : ℤ) (x : Formula-F Formula) → left_allows_layer m x ≡ true → LeftSays x z → pos 0 ≤ℤ (m *ℤ z)
 left_multiple m z (Formula-F.Eq s t) e h = of_nothing m z h
-left_multiple m z (Formula-F.Less s t) e h = product_at_least m z (both_left (is_non_negative m) _ e) h
-left_multiple m z (Formula-F.AtMost s t) e h = product_at_least m z (both_left (is_non_negative m) _ e) h
+left_multiple m z (Formula-F.Less s t) e h = product_at_least m z (and_parts (is_non_negative m) _ e).0 h
+left_multiple m z (Formula-F.AtMost s t) e h = product_at_least m z (and_parts (is_non_negative m) _ e).0 h
 left_multiple m z Formula-F.True e h = absurd (true≢false (sym e))
 left_multiple m z Formula-F.False e h = absurd (true≢false (sym e))
 left_multiple m z (Formula-F.Not f) e h = absurd (true≢false (sym e))
@@ -72,8 +72,8 @@ left_multiple m z (Formula-F.Any _ f) e h = absurd (true≢false (sym e))
 left_multiple m z (Formula-F.App _ args) e h = absurd (true≢false (sym e))
 
 right_sign : (m : ℤ) (x : Formula-F Formula) → right_allows_layer m x ≡ true → is_non_negative m ≡ true
-right_sign m (Formula-F.Less s t) e = both_left (is_non_negative m) _ e
-right_sign m (Formula-F.AtMost s t) e = both_left (is_non_negative m) _ e
+right_sign m (Formula-F.Less s t) e = (and_parts (is_non_negative m) _ e).0
+right_sign m (Formula-F.AtMost s t) e = (and_parts (is_non_negative m) _ e).0
 right_sign m (Formula-F.Eq s t) e = absurd (true≢false (sym e))
 right_sign m Formula-F.True e = absurd (true≢false (sym e))
 right_sign m Formula-F.False e = absurd (true≢false (sym e))
@@ -134,8 +134,8 @@ module _ (library : List Definition) (s0 s : State) (left right : List Formula)
     parts_hold : (parts : List Part) → list_all (is_allowed left right made) parts ≡ true → (e : Expansion) → IfPolynomial e AtLeast → IfPolynomial (with_parts left right made parts e) AtLeast
     parts_hold [] a e h = h
     parts_hold (part ∷ parts) a e h =
-        parts_hold parts (both_right (is_allowed left right made part) _ a) (and_then e (λ sum. with_part left right made sum part))
-        (next_holds part (both_left (is_allowed left right made part) _ a) e h)
+        parts_hold parts (and_parts (is_allowed left right made part) _ a).1 (and_then e (λ sum. with_part left right made sum part))
+        (next_holds part (and_parts (is_allowed left right made part) _ a).0 e h)
 
     sum_case : (b : Bool) (parts : List Part) → list_all (is_allowed left right made) parts ≡ b → IfPolynomial (cond b (with_parts left right made parts (Polynomial [])) Unfit) AtLeast
     sum_case true parts e = parts_hold parts e (Polynomial []) (omega (arith, ints))

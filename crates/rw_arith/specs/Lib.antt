@@ -1,4 +1,3 @@
-pub mod Same
 pub mod Polynomials
 pub mod Expanded
 pub mod Given

@@ -5,7 +5,7 @@ use Rattle.rw_terms.specs.declared.term.Term.{Term}
 use Rattle.rw_arith.specs.declared.poly.Summand.{Summand}
 use Rattle.rw_arith.specs.declared.poly.Expansion.{Expansion}
 use Rattle.rw_arith.specs.declared.poly.Expansion.TheVariants.{Polynomial, Unfit, Wide}
-use Rattle.rw_arith.specs.Same.{same_term}
+use Rattle.rw_terms.specs.Same.{same_term}
 
 -- within 128 bits
 abbrev pub is_narrow : ℤ → Bool

@@ -1,7 +1,7 @@
 //! Polynomials: the sum of products of atoms, with coefficients of 128 bits.
 
 ghost use Rattle.std.specs.Prelude.{◌≡◌, ◌<◌, length, count_by, IfSome, IfOk};
-ghost use Rattle.rw_arith.specs.Same.{same_term};
+ghost use Rattle.rw_terms.specs.Same.{same_term};
 ghost use Rattle.rw_arith.specs.Polynomials.{is_one_product, is_product, place, within_limit, put_in, times_set, joined, with_summand};
 
 use rw_items::Items;

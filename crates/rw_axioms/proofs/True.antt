@@ -1,5 +1,6 @@
 -- The axioms hold wherever the names have values of their sorts.
 use Rattle.std.proofs.Common.{◌≡◌, ℕ, zero, suc, Bool, true, false, ◌&&◌, ℤ, pos, negsuc, List, [], ◌∷◌, length, reverse, slice_get, slice_set, Option, Some, None, refl, sym, ◌∙◌, ap, subst, ◌<◌, ◌<ℤ◌, ◌≤ℤ◌, arith, true≢false}
+use Rattle.std.proofs.lemmas.Bool.{and_parts}
 use Rattle.std.specs.Prelude.{◌+ℤ◌, ◌*ℤ◌, is_some}
 use Rattle.std.specs.Option.{option_map}
 use Rattle.std.proofs.lemmas.Int.{ints}
@@ -23,12 +24,13 @@ use Rattle.rw_terms.specs.Validity.{FitsNames, Valid}
 use Rattle.rw_terms.proofs.Truths.{to_layer, from_layer, layer_truth}
 use Rattle.rw_terms.proofs.Dividing.{quotient_law, rest_of_positive, rest_of_negative}
 use Rattle.rw_terms.specs.declared.sequent.Sequent.{Sequent}
+use Rattle.rw_terms.specs.InScope.{only_if}
 use Rattle.rw_goals.specs.Premises.{effect}
 use Rattle.rw_goals.specs.Sorting.{sort_of}
 use Rattle.rw_goals.proofs.Sound.{Holds, AllValid, one_refuted}
 use Rattle.rw_goals.proofs.Sorted.{has_sort, no_binder}
 use Rattle.rw_axioms.specs.Axioms as axioms
-use Rattle.rw_axioms.specs.Axioms.{array_length, only_if, small_axiom, axiom_parts, same_length, put_same, put_other, extension, division, is_int, put_same_axiom, put_other_axiom, extension_axiom, division_axiom}
+use Rattle.rw_axioms.specs.Axioms.{array_length, small_axiom, axiom_parts, same_length, put_same, put_other, extension, division, is_int, put_same_axiom, put_other_axiom, extension_axiom, division_axiom}
 
 is_whole : (x : Value) → HasSort x Int → Whole (whole x) ≡ x
 is_whole (Whole z) h = refl
@@ -198,9 +200,6 @@ module _ (library : List Definition) (s0 s : State) where
       )
 
 -- what an axiom's test says of the sorts
-pub and_true : (a b : Bool) → (a && b) ≡ true → (a ≡ true) × (b ≡ true)
-and_true true b e = (refl, e)
-and_true false b e = absurd (true≢false (sym e))
 
 there : {X : Type 0} (b : Bool) (o : Option X) (x : X) → only_if b o ≡ Some x → (b ≡ true) × (o ≡ Some x)
 there true o x e = (refl, e)
@@ -233,7 +232,7 @@ module _ (library : List Definition) (names : List Named) (s0 s : State) (fits0 
   pub put_same_true : (a i e : Term) (f : Formula) → put_same_axiom names a i e ≡ Some f → holds library f s0 s []
   put_same_true a i e f is =
       let t = there (is_int names i && is_int names e) _ f is in
-      let ints = and_true (is_int names i) _ t.0 in
+      let ints = and_parts (is_int names i) _ t.0 in
       let n = made_of _ (array_length (sort_of names [] a)) f t.1 in
       subst (λ g. holds library g s0 s []) n.2
       (put_same_holds library s0 s a i e n.0 (has_sort names s0 s fits0 fits a _ (of_array _ n.0 n.1)) (has_sort names s0 s fits0 fits e _ (of_int _ ints.1)))
@@ -241,8 +240,8 @@ module _ (library : List Definition) (names : List Named) (s0 s : State) (fits0 
   pub put_other_true : (a i e j : Term) (f : Formula) → put_other_axiom names a i e j ≡ Some f → holds library f s0 s []
   put_other_true a i e j f is =
       let t = there (is_int names i && is_int names e && is_int names j) _ f is in
-      let ints = and_true (is_int names i && is_int names e) _ t.0 in
-      let first = and_true (is_int names i) _ ints.0 in
+      let ints = and_parts (is_int names i && is_int names e) _ t.0 in
+      let first = and_parts (is_int names i) _ ints.0 in
       let n = made_of _ (array_length (sort_of names [] a)) f t.1 in
       subst (λ g. holds library g s0 s []) n.2
       (put_other_holds library s0 s a i e j (has_sort names s0 s fits0 fits i _ (of_int _ first.0)) (has_sort names s0 s fits0 fits j _ (of_int _ ints.1)))
@@ -261,7 +260,7 @@ module _ (library : List Definition) (names : List Named) (s0 s : State) (fits0 
   pub division_true : (t u : Term) (f : Formula) → division_axiom names t u ≡ Some f → holds library f s0 s []
   division_true t u f is =
       let r = there (is_int names t && is_int names u) _ f is in
-      let ints = and_true (is_int names t) _ r.0 in
+      let ints = and_parts (is_int names t) _ r.0 in
       let g : division t u ≡ f = cc r.1 in
       subst (λ g. holds library g s0 s []) g
       (division_holds library s0 s t u (has_sort names s0 s fits0 fits t _ (of_int _ ints.0)) (has_sort names s0 s fits0 fits u _ (of_int _ ints.1)))

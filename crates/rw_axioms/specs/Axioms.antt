@@ -9,8 +9,10 @@ use Rattle.rw_terms.specs.declared.term.Formula.{Formula}
 use Rattle.rw_terms.specs.declared.term.Formula.TheVariants.{Eq, Less, AtMost, Not, And, Imp, All}
 use Rattle.rw_terms.specs.Named.{Named}
 use Rattle.rw_terms.specs.Rules.{is_of}
+use Rattle.rw_terms.specs.InScope.{only_if}
 use Rattle.rw_goals.specs.declared.added.Parts.{Parts}
 use Rattle.rw_goals.specs.declared.added.Parts.TheVariants.{Fails, One}
+use Rattle.rw_goals.specs.Causes as causes
 use Rattle.rw_goals.specs.Premises.{on_left}
 use Rattle.rw_goals.specs.Cut.{is_large}
 use Rattle.rw_goals.specs.Sorting.{sort_of}
@@ -21,19 +23,14 @@ array_length None = None
 array_length (Some Int) = None
 array_length (Some (Array n)) = Some n
 
--- what is there, if the test holds
-abbrev pub only_if : {X : Type 0} → Bool → Option X → Option X
-only_if true o = o
-only_if false o = None
-
 -- an axiom for terms of the right sorts goes to the left, if it keeps the limits
 abbrev pub small_axiom : Bool → Formula → Parts
-small_axiom true f = Fails 7
+small_axiom true f = Fails causes.too_large
 small_axiom false f = One (on_left (f ∷ []))
 
 -- an axiom on the left, or the cause for terms of wrong sorts
 abbrev pub axiom_parts : Option Formula → Parts
-axiom_parts None = Fails 6
+axiom_parts None = Fails causes.sort
 axiom_parts (Some f) = small_axiom (is_large f) f
 
 -- an index in range is read as what was put there

@@ -8,12 +8,14 @@ ghost use Rattle.rw_goals.specs.Premises.{Gives, effect};
 ghost use Rattle.rw_goals.specs.Sorting.{sort_of};
 ghost use Rattle.rw_axioms.specs.Axioms.{put_same, put_same_axiom, put_other, put_other_axiom, extension, extension_axiom, division, division_axiom, axiom_parts, array_length, quotient_law, positive_law, negative_law};
 
-use crate::building::{at_most, both, equal, implies, less, made_up, read, read_put, rest};
+use crate::building::{at_most, equal, implies, less, made_up, read, read_put, rest};
 use rw_goals::added::{Added, Parts};
-use rw_goals::cut::{SORT, is_large};
-use rw_goals::outcome::{Outcome, TOO_LARGE, put_premises};
+use rw_goals::causes::{SORT, TOO_LARGE};
+use rw_goals::cut::is_large;
+use rw_goals::outcome::{Outcome, put_premises};
 use rw_goals::sorting::sort_of;
 use rw_items::Boxed;
+use rw_terms::joining::both;
 use rw_terms::name::Name;
 use rw_terms::sequent::Sequent;
 use rw_terms::term::{Formula, Sort, Term};

@@ -5,21 +5,15 @@ ghost use Rattle.rw_terms.specs.declared.term.Term.TheVariants as term;
 ghost use Rattle.rw_terms.specs.declared.term.Formula.TheVariants as formula;
 
 use rw_items::Boxed;
+use rw_terms::copying::boxed_term;
 use rw_terms::term::{Formula, Term};
 use std::alloc::{AllocError, Global};
-
-/// A copy of the term.
-pub fn boxed(alloc: Global, t: &Term) -> Result<Boxed<Term>, AllocError>
-    ensures { IfOk result (λ u. u ≡ t.now) }
-{
-    Boxed::new(alloc, t.copy(alloc)?)
-}
 
 /// `t = u`
 pub fn equal(alloc: Global, t: &Term, u: &Term) -> Result<Boxed<Formula>, AllocError>
     ensures { IfOk result (λ f. f ≡ formula.Eq t.now u.now) }
 {
-    let t = boxed(alloc, t)?;
+    let t = boxed_term(alloc, t)?;
     let u = u.copy(alloc)?;
     Boxed::new(alloc, Formula::Eq(t.into_inner(), u))
 }
@@ -28,7 +22,7 @@ pub fn equal(alloc: Global, t: &Term, u: &Term) -> Result<Boxed<Formula>, AllocE
 pub fn less(alloc: Global, t: &Term, u: &Term) -> Result<Boxed<Formula>, AllocError>
     ensures { IfOk result (λ f. f ≡ formula.Less t.now u.now) }
 {
-    let t = boxed(alloc, t)?;
+    let t = boxed_term(alloc, t)?;
     let u = u.copy(alloc)?;
     Boxed::new(alloc, Formula::Less(t.into_inner(), u))
 }
@@ -37,7 +31,7 @@ pub fn less(alloc: Global, t: &Term, u: &Term) -> Result<Boxed<Formula>, AllocEr
 pub fn at_most(alloc: Global, t: &Term, u: &Term) -> Result<Boxed<Formula>, AllocError>
     ensures { IfOk result (λ f. f ≡ formula.AtMost t.now u.now) }
 {
-    let t = boxed(alloc, t)?;
+    let t = boxed_term(alloc, t)?;
     let u = u.copy(alloc)?;
     Boxed::new(alloc, Formula::AtMost(t.into_inner(), u))
 }
@@ -53,23 +47,12 @@ pub fn implies(
     Boxed::new(alloc, Formula::Imp(f, g))
 }
 
-/// `f and g`
-pub fn both(
-    alloc: Global,
-    f: Boxed<Formula>,
-    g: Boxed<Formula>,
-) -> Result<Boxed<Formula>, AllocError>
-    ensures { IfOk result (λ h. h ≡ formula.And f g) }
-{
-    Boxed::new(alloc, Formula::And(f, g))
-}
-
 /// `a[i]`
 pub fn read(alloc: Global, a: &Term, i: &Term) -> Result<Boxed<Term>, AllocError>
     ensures { IfOk result (λ t. t ≡ term.Read a.now i.now) }
 {
-    let a = boxed(alloc, a)?;
-    let i = boxed(alloc, i)?;
+    let a = boxed_term(alloc, a)?;
+    let i = boxed_term(alloc, i)?;
     Boxed::new(alloc, Term::Read(a, i))
 }
 
@@ -83,11 +66,11 @@ pub fn read_put(
 ) -> Result<Boxed<Term>, AllocError>
     ensures { IfOk result (λ t. t ≡ term.Read (term.Put a.now i.now e.now) j.now) }
 {
-    let a = boxed(alloc, a)?;
-    let i = boxed(alloc, i)?;
-    let e = boxed(alloc, e)?;
+    let a = boxed_term(alloc, a)?;
+    let i = boxed_term(alloc, i)?;
+    let e = boxed_term(alloc, e)?;
     let put = Boxed::new(alloc, Term::Put(a, i, e))?;
-    let j = boxed(alloc, j)?;
+    let j = boxed_term(alloc, j)?;
     Boxed::new(alloc, Term::Read(put, j))
 }
 
@@ -95,8 +78,8 @@ pub fn read_put(
 pub fn rest(alloc: Global, t: &Term, u: &Term) -> Result<Boxed<Term>, AllocError>
     ensures { IfOk result (λ r. r ≡ term.Mod t.now u.now) }
 {
-    let t = boxed(alloc, t)?;
-    let u = boxed(alloc, u)?;
+    let t = boxed_term(alloc, t)?;
+    let u = boxed_term(alloc, u)?;
     Boxed::new(alloc, Term::Mod(t, u))
 }
 
@@ -104,10 +87,10 @@ pub fn rest(alloc: Global, t: &Term, u: &Term) -> Result<Boxed<Term>, AllocError
 pub fn made_up(alloc: Global, t: &Term, u: &Term) -> Result<Boxed<Term>, AllocError>
     ensures { IfOk result (λ r. r ≡ term.Add (term.Mul u.now (term.Div t.now u.now)) (term.Mod t.now u.now)) }
 {
-    let dividend = boxed(alloc, t)?;
-    let divisor = boxed(alloc, u)?;
+    let dividend = boxed_term(alloc, t)?;
+    let divisor = boxed_term(alloc, u)?;
     let quotient = Boxed::new(alloc, Term::Div(dividend, divisor))?;
-    let factor = boxed(alloc, u)?;
+    let factor = boxed_term(alloc, u)?;
     let product = Boxed::new(alloc, Term::Mul(factor, quotient))?;
     let rest = rest(alloc, t, u)?;
     Boxed::new(alloc, Term::Add(product, rest))

@@ -10,6 +10,7 @@ use Rattle.rw_terms.specs.Rules.{are_of}
 use Rattle.rw_subst.specs.declared.slot.Slot.TheVariants.{Var, Init, Const}
 use Rattle.rw_subst.specs.declared.slot.Change.{Change}
 use Rattle.rw_subst.specs.Replaced.{replaced_formula}
+use Rattle.rw_goals.specs.Causes as causes
 use Rattle.rw_goals.specs.declared.added.Parts.{Parts}
 use Rattle.rw_goals.specs.declared.added.Parts.TheVariants.{Fails}
 use Rattle.rw_goals.specs.declared.library.Definition.{Definition}
@@ -73,21 +74,21 @@ module _ (names : List Named) where
 
   -- a definition's body for terms of its parameters' sorts
   abbrev pub unfolded_left : Option Definition → List Term → Parts
-  unfolded_left None ts = Fails 6
+  unfolded_left None ts = Fails causes.sort
   unfolded_left (Some d) ts = said_left d.params ts d.body
 
   abbrev pub unfolded_right : Option Definition → List Term → Parts
-  unfolded_right None ts = Fails 6
+  unfolded_right None ts = Fails causes.sort
   unfolded_right (Some d) ts = said_right d.params ts d.body
 
   -- the body in place of the predicate on terms
   abbrev pub unfold_left : List Item → Formula-F Formula → Parts
   unfold_left entries (Formula-F.App p ts) = unfolded_left (definition_of entries p) ts
-  unfold_left entries _ = Fails 4
+  unfold_left entries _ = Fails causes.shape
 
   abbrev pub unfold_right : List Item → Formula-F Formula → Parts
   unfold_right entries (Formula-F.App p ts) = unfolded_right (definition_of entries p) ts
-  unfold_right entries _ = Fails 4
+  unfold_right entries _ = Fails causes.shape
 
   -- what a lemma says of terms of its parameters' sorts
   abbrev pub lemma_left : Lemma → List Term → Parts
@@ -96,8 +97,8 @@ module _ (names : List Named) where
   -- of the lemmas before a table place and all of them: a later one may not be cited
   abbrev pub cited_left : Option Lemma → Option Lemma → List Term → Parts
   cited_left (Some l) o ts = lemma_left l ts
-  cited_left None (Some l) ts = Fails 8
-  cited_left None None ts = Fails 6
+  cited_left None (Some l) ts = Fails causes.order
+  cited_left None None ts = Fails causes.sort
 
 -- the left predicate of this number, and the right one
 abbrev pub unfold_at_left : Library → Sequent → ℕ → Effect

@@ -12,17 +12,14 @@ use crate::finding::lemma_of;
 use crate::instance::said_left;
 use crate::joining::statement;
 use rw_goals::added::Parts;
-use rw_goals::cut::SORT;
+use rw_goals::causes::{ORDER, SORT, TOO_LARGE};
 use rw_goals::library::{Item, Lemma, Library};
-use rw_goals::outcome::{Outcome, TOO_LARGE, put_premises};
+use rw_goals::outcome::{Outcome, put_premises};
 use rw_goals::sorting::are_of;
 use rw_terms::name::Name;
 use rw_terms::sequent::Sequent;
 use rw_terms::term::{Sort, Term};
 use std::alloc::{AllocError, Global};
-
-/// The lemma does not stand before the table place of what is proved.
-pub const ORDER: u8 = 8;
 
 /// How deep a formula may be.
 const MOST_DEEP: usize = 64;

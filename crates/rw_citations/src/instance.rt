@@ -4,7 +4,7 @@ ghost use Rattle.std.specs.Prelude.{◌≡◌, ◌++◌, ◌∷◌, [], IfOk};
 ghost use Rattle.rw_citations.specs.Cited.{changes_of, changes_for, cited, said_left, said_right};
 
 use rw_goals::added::Parts;
-use rw_goals::cut::SORT;
+use rw_goals::causes::SORT;
 use rw_goals::sorting::are_of;
 use rw_items::{Boxed, Items};
 use rw_quantifiers::instances::{beside_left, beside_right};

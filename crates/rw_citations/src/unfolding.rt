@@ -8,9 +8,9 @@ ghost use Rattle.rw_citations.specs.Cited.{unfolded_left, unfolded_right, unfold
 use crate::finding::definition_of;
 use crate::instance::{said_left, said_right};
 use rw_goals::added::Parts;
-use rw_goals::cut::SORT;
+use rw_goals::causes::{NO_FORMULA, SHAPE, SORT};
 use rw_goals::library::{Definition, Item, Library};
-use rw_goals::outcome::{NO_FORMULA, Outcome, SHAPE, numbered, put_premises};
+use rw_goals::outcome::{Outcome, numbered, put_premises};
 use rw_terms::name::Name;
 use rw_terms::sequent::Sequent;
 use rw_terms::term::{Formula, Sort, Term};

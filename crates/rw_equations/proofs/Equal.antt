@@ -1,5 +1,6 @@
 -- The rules of equality are sound.
 use Rattle.std.proofs.Common.{◌≡◌, ◌↔◌, ℕ, ◌-◌, Bool, true, false, ◌&&◌, nat_eq, ℤ, List, [], ◌∷◌, reverse, Option, Some, None, refl, sym, ◌∙◌, subst, ◌≤ℤ◌, arith}
+use Rattle.std.proofs.lemmas.Bool.{and_parts}
 use Rattle.std.specs.Prelude.{is_some}
 use Rattle.std.proofs.lemmas.Int.{ints}
 use Rattle.rw_terms.specs.declared.term.Sort.TheVariants.{Int}
@@ -27,7 +28,7 @@ use Rattle.rw_axioms.specs.Axioms.{is_int}
 use Rattle.rw_equations.specs.Rewritten.{rewritten_formula}
 use Rattle.rw_equations.specs.Equality.{two_orders, equal_right, equation_right, flipped, flip, sides_if, sides, if_small, rewritten_by, rewriting, unless_itself, placed, left_with, right_with, rewrite_left, rewrite_right}
 use Rattle.rw_equations.proofs.Rewrites.{truth_kept}
-use Rattle.rw_axioms.proofs.True.{made, seen, same_whole, and_true, of_int}
+use Rattle.rw_axioms.proofs.True.{made, seen, same_whole, of_int}
 
 between : (a b : ℤ) → a ≤ℤ b → b ≤ℤ a → a ≡ b
 between a b h k = omega (arith, ints)
@@ -61,7 +62,7 @@ module _ (library : List Definition) where
   equal_layer : (q rest : Sequent) → rest.names ≡ q.names → (x : Formula-F Formula) → AllValid library (effect (equal_right q.names x) rest) → (s0 s1 : State) →
       FitsNames q.names s0 → FitsNames q.names s1 → ¬ (HoldsAt library s0 s1 x) → Each (Holds library s0 s1) rest.left → ¬ (Each (Denies library s0 s1) rest.right)
   equal_layer q rest is (Formula-F.Eq s t) v s0 s1 i j deny left right =
-      orders_sound q rest is (is_int q.names s && is_int q.names t) s t (and_true (is_int q.names s) _) v s0 s1 i j (λ e. deny e) left right
+      orders_sound q rest is (is_int q.names s && is_int q.names t) s t (and_parts (is_int q.names s) _) v s0 s1 i j (λ e. deny e) left right
   equal_layer q rest is _ v s0 s1 i j deny left right = absurd v
 
   pub equation_right_sound : (q : Sequent) (n : ℕ) → AllValid library (equation_right q n) → Valid library q
@@ -93,7 +94,7 @@ sides_told names false s t f g e is ok h = absurd (cc)
 sides_told names true s t f g e is ok h = let k = ok refl in (s, t, is, k.0, k.1, small_told _ _ g h)
 
 by_told : (names : List Named) (x : Formula-F Formula) (e f g : Formula) → out-Formula e ≡ x → rewritten_by (sides names x) f ≡ rewritten.To g → IsRewritten names e f g
-by_told names (Formula-F.Eq s t) e f g is h = sides_told names (is_some (sort_of names [] s) && is_some (sort_of names [] t)) s t f g e is (and_true (is_some (sort_of names [] s)) _) h
+by_told names (Formula-F.Eq s t) e f g is h = sides_told names (is_some (sort_of names [] s) && is_some (sort_of names [] t)) s t f g e is (and_parts (is_some (sort_of names [] s)) _) h
 by_told names _ e f g is h = absurd (cc)
 
 rewriting_told : (names : List Named) (o p : Option Formula) (g : Formula) → rewriting names o p ≡ rewritten.To g →

@@ -15,8 +15,8 @@ use Rattle.rw_terms.specs.Value.{value_step, value_by}
 use Rattle.rw_terms.specs.Truth.{Predicates, holds_by}
 use Rattle.rw_terms.proofs.Truths.{to_layer, from_layer, layer_truth}
 use Rattle.rw_terms.proofs.Agree.{not_iff, and_iff, imp_iff, all_iff, along, along_both}
-use Rattle.rw_goals.specs.Same.{same_term}
-use Rattle.rw_goals.proofs.Same.{term_told}
+use Rattle.rw_terms.specs.Same.{same_term}
+use Rattle.rw_terms.proofs.Decides.{term_told}
 use Rattle.rw_equations.specs.Rewritten.{assembled, chosen, rewritten_step, rewritten_term, parts_rewritten, rewritten_formula_step, rewritten_formula}
 
 -- the term of parts, each changed, is the changed layer rolled up

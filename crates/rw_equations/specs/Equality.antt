@@ -9,6 +9,7 @@ use Rattle.rw_terms.specs.declared.sequent.Sequent.{Sequent}
 use Rattle.rw_terms.specs.Named.{Named}
 use Rattle.rw_goals.specs.declared.added.Parts.{Parts}
 use Rattle.rw_goals.specs.declared.added.Parts.TheVariants.{Fails, One, Two}
+use Rattle.rw_goals.specs.Causes as causes
 use Rattle.rw_goals.specs.Premises as effects
 use Rattle.rw_goals.specs.Premises.{Effect, nothing, on_left, on_right, numbered, effect, principal, at_right}
 use Rattle.rw_goals.specs.Cut.{is_large}
@@ -21,12 +22,12 @@ use Rattle.rw_equations.specs.Rewritten.{rewritten_formula}
 -- an equation of integers by two orders
 abbrev pub two_orders : Bool → Term → Term → Parts
 two_orders true s t = Two (on_right (AtMost s t ∷ [])) (on_right (AtMost t s ∷ []))
-two_orders false s t = Fails 4
+two_orders false s t = Fails causes.shape
 
 -- of integers over the names
 abbrev pub equal_right : List Named → Formula-F Formula → Parts
 equal_right names (Formula-F.Eq s t) = two_orders (is_int names s && is_int names t) s t
-equal_right names _ = Fails 4
+equal_right names _ = Fails causes.shape
 
 -- the right equation of this number
 abbrev pub equation_right : Sequent → ℕ → Effect
@@ -35,7 +36,7 @@ equation_right q j = at_right q j (λ f. equal_right q.names (out-Formula f))
 -- the sides of an equation exchanged; the equation stays
 abbrev pub flipped : Formula-F Formula → Parts
 flipped (Formula-F.Eq s t) = One (on_left (Eq t s ∷ []))
-flipped _ = Fails 4
+flipped _ = Fails causes.shape
 
 -- the left equation of this number
 abbrev pub flip : Sequent → ℕ → Effect
@@ -53,24 +54,24 @@ sides names _ = None
 
 -- a rewritten formula, unless it is past a limit
 abbrev pub if_small : Bool → Formula → Rewritten
-if_small true f = rewritten.Fails 7
+if_small true f = rewritten.Fails causes.too_large
 if_small false f = rewritten.To f
 
 -- a formula rewritten by the sides of an equation
 abbrev pub rewritten_by : Option (Term × Term) → Formula → Rewritten
-rewritten_by None f = rewritten.Fails 4
+rewritten_by None f = rewritten.Fails causes.shape
 rewritten_by (Some e) f = if_small (is_large (rewritten_formula e.0 e.1 f)) (rewritten_formula e.0 e.1 f)
 
 -- by the equation and the formula that are found
 abbrev pub rewriting : List Named → Option Formula → Option Formula → Rewritten
-rewriting names None o = rewritten.Fails 3
-rewriting names (Some e) None = rewritten.Fails 3
+rewriting names None o = rewritten.Fails causes.no_formula
+rewriting names (Some e) None = rewritten.Fails causes.no_formula
 rewriting names (Some e) (Some f) = rewritten_by (sides names (out-Formula e)) f
 
 -- an equation does not rewrite itself
 abbrev pub unless_itself : Bool → Option Formula → Rewritten → Rewritten
-unless_itself true None r = rewritten.Fails 3
-unless_itself true (Some f) r = rewritten.Fails 4
+unless_itself true None r = rewritten.Fails causes.no_formula
+unless_itself true (Some f) r = rewritten.Fails causes.shape
 unless_itself false o r = r
 
 -- the rewritten formula in its place

@@ -9,7 +9,7 @@ use Rattle.rw_terms.specs.declared.term.Formula.{Formula}
 use Rattle.rw_terms.specs.declared.term.Formula.TheVariants as formula
 use Rattle.rw_terms.specs.declared.term.Formula.TheOpen.{Formula-F}
 use Rattle.rw_terms.specs.declared.term.Formula.TheFolds.{fold-Formula}
-use Rattle.rw_goals.specs.Same.{same_term}
+use Rattle.rw_terms.specs.Same.{same_term}
 
 -- the term of these parts
 abbrev pub assembled : {X : Type 0} → (X → Term) → Term-F X → Term

@@ -10,12 +10,14 @@ ghost use Rattle.rw_equations.specs.Equality.{equal_right, equation_right, flipp
 
 use crate::rewriting::rewrite;
 use rw_axioms::axioms::is_int;
-use rw_axioms::building::{at_most, boxed};
+use rw_axioms::building::at_most;
 use rw_goals::added::{Added, Parts};
+use rw_goals::causes::{NO_FORMULA, SHAPE, TOO_LARGE};
 use rw_goals::cut::is_large;
-use rw_goals::outcome::{NO_FORMULA, Outcome, SHAPE, TOO_LARGE, numbered, put_premises};
+use rw_goals::outcome::{Outcome, numbered, put_premises};
 use rw_goals::sorting::sort_of;
 use rw_items::{Boxed, Items};
+use rw_terms::copying::boxed_term;
 use rw_terms::name::Name;
 use rw_terms::sequent::Sequent;
 use rw_terms::term::{Formula, Sort, Term};
@@ -73,7 +75,7 @@ fn exchanged(alloc: Global, formula: &Formula) -> Result<Parts, AllocError>
     match formula {
         Formula::Eq(s, t) => {
             let mut added = Added::new(alloc);
-            let first = boxed(alloc, t)?;
+            let first = boxed_term(alloc, t)?;
             let second = s.copy(alloc)?;
             added.left.push(Formula::Eq(first.into_inner(), second))?;
             Ok(Parts::One(added))

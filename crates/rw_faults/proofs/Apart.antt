@@ -1,5 +1,6 @@
 -- A formula keeps the rules exactly where it has no unknown name and no part with a sort that its rule does not take.
 use Rattle.std.proofs.Common.{◌≡◌, ℕ, ◌+◌, Bool, true, false, ◌||◌, List, [], ◌∷◌, map, find, length, suc, Option, Some, None, refl, sym, ap, ◌∙◌, subst, true≢false}
+use Rattle.std.proofs.lemmas.Bool.{not-false, not_from_true, or_from, or_parts}
 use Rattle.std.specs.Prelude.{not, nat_eq, ◌&&◌}
 use Rattle.rw_terms.specs.declared.error.TermError.{TermError}
 use Rattle.rw_terms.specs.declared.scope.Entry.{Entry}
@@ -19,24 +20,6 @@ use Rattle.rw_terms.specs.Formed.{FormulaReport, formula_report, formula_report_
 use Rattle.rw_faults.specs.Faults.{unless_known, first_name, first_of_names, unknown_predicate, unknown_step, unknown_in_term, formula_unknown_step, unknown_in, of_binder, on_ints, any_bad, each_fits, fit_in, bad_application, checked_step, checked, ill_step, is_ill_sorted, FaultsApart}
 use Rattle.rw_terms.proofs.Reported.{first_none, second_none, none_none, rule_kept, keeps_rule}
 use Rattle.rw_terms.proofs.FormedRules.{formula_told}
-
-left_false : (a b : Bool) → (a || b) ≡ false → a ≡ false
-left_false true b e = e
-left_false false b e = refl
-
-right_false : (a b : Bool) → (a || b) ≡ false → b ≡ false
-right_false true b e = absurd (true≢false e)
-right_false false b e = e
-
-both_false : (a b : Bool) → a ≡ false → b ≡ false → (a || b) ≡ false
-both_false a b p q = ap (λ x. x || b) p ∙ q
-
-not_true : (r : Bool) → r ≡ true → not r ≡ false
-not_true r e = ap not e
-
-of_not : (r : Bool) → not r ≡ false → r ≡ true
-of_not true e = refl
-of_not false e = absurd (true≢false e)
 
 left_name : (x y : Option (List ℕ)) → first_name x y ≡ None → x ≡ None
 left_name None y e = refl
@@ -59,15 +42,15 @@ apart_join : (f g : ℕ → Option TermError) (x y : Option (List ℕ)) (b c : B
     Apart (λ place. first_of (f (here place)) (g (there place))) (first_name x y) (b || c)
 apart_join f g x y b c here there p q = record {
   known = λ place e. no_name x y (p.known (here place) (first_none _ _ e)) (q.known (there place) (second_none _ _ e));
-  good = λ place e. both_false b c (p.good (here place) (first_none _ _ e)) (q.good (there place) (second_none _ _ e));
-  kept = λ place n e. none_none _ _ (p.kept (here place) (left_name x y n) (left_false b c e)) (q.kept (there place) (right_name x y n) (right_false b c e));
+  good = λ place e. or_from b c (p.good (here place) (first_none _ _ e)) (q.good (there place) (second_none _ _ e));
+  kept = λ place n e. none_none _ _ (p.kept (here place) (left_name x y n) (or_parts b c e).0) (q.kept (there place) (right_name x y n) (or_parts b c e).1);
 }
 
 apart_ruled : (r : Bool) (f : ℕ → Option TermError) (x : Option (List ℕ)) (b : Bool) → Apart f x b → Apart (λ place. first_of (unless r place) (f place)) x (not r || b)
 apart_ruled r f x b p = record {
   known = λ place e. p.known place (second_none _ _ e);
-  good = λ place e. both_false (not r) b (not_true r (rule_kept r place (first_none _ _ e))) (p.good place (second_none _ _ e));
-  kept = λ place n e. none_none _ _ (keeps_rule r place (of_not r (left_false (not r) b e))) (p.kept place n (right_false (not r) b e));
+  good = λ place e. or_from (not r) b (not_from_true r (rule_kept r place (first_none _ _ e))) (p.good place (second_none _ _ e));
+  kept = λ place n e. none_none _ _ (keeps_rule r place (not-false r (or_parts (not r) b e).0)) (p.kept place n (or_parts (not r) b e).1);
 }
 
 apart_next : (f : ℕ → Option TermError) (x : Option (List ℕ)) (b : Bool) (next : ℕ → ℕ) → Apart f x b → Apart (λ place. f (next place)) x b

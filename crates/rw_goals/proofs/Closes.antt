@@ -1,5 +1,6 @@
 -- The rules that close a goal are sound.
-use Rattle.std.proofs.Common.{◌≡◌, ◌||◌, Bool, true, false, List, [], ◌∷◌, refl, sym, ap, subst, true≢false}
+use Rattle.std.proofs.Common.{◌≡◌, Bool, true, false, List, [], ◌∷◌, refl, sym, ap, subst, true≢false, ⊎_elim}
+use Rattle.std.proofs.lemmas.Bool.{or_cases}
 use Rattle.std.specs.List.{list_any}
 use Rattle.rw_terms.specs.declared.term.Formula.{Formula}
 use Rattle.rw_terms.specs.declared.term.Formula.TheOpen.{Formula-F}
@@ -11,19 +12,15 @@ use Rattle.rw_terms.specs.Truth.{Definition}
 use Rattle.rw_terms.specs.Validity.{Each, Valid}
 use Rattle.rw_goals.specs.declared.closing.Closing.{Closing}
 use Rattle.rw_goals.specs.declared.closing.Closing.TheVariants as closes
-use Rattle.rw_goals.specs.Same.{same_formula}
+use Rattle.rw_terms.specs.Same.{same_formula}
 use Rattle.rw_goals.specs.Closing.{is_false, is_true, is_reflexive, closes_if, closed_by}
-use Rattle.rw_goals.proofs.Same.{term_told, formula_told}
+use Rattle.rw_terms.proofs.Decides.{term_told, formula_told}
 use Rattle.rw_goals.proofs.Sound.{Holds, Denies, HoldsAt, opened, closed, AllValid}
-
-or_cases : {C : Type 0} (a b : Bool) → (a || b) ≡ true → (a ≡ true → C) → (b ≡ true → C) → C
-or_cases true b e f g = f refl
-or_cases false b e f g = g e
 
 -- a list of which each item has P and some item passes a test, which no item with P does
 none_passes : {X : Type 0} (P : X → Type 0) (test : X → Bool) → ((x : X) → test x ≡ true → ¬ (P x)) → (l : List X) → list_any test l ≡ true → ¬ (Each P l)
 none_passes P test deny [] e h = true≢false (sym e)
-none_passes P test deny (x ∷ xs) e h = or_cases (test x) _ e (λ t. deny x t h.0) (λ t. none_passes P test deny xs t h.1)
+none_passes P test deny (x ∷ xs) e h = ⊎_elim (λ t. deny x t h.0) (λ t. none_passes P test deny xs t h.1) (or_cases (test x) _ e)
 
 module _ (library : List Definition) where
   passed : (b : Bool) → AllValid library (closes_if b) → b ≡ true

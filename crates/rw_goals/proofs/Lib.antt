@@ -1,5 +1,4 @@
 pub mod Weights
-pub mod Same
 pub mod Sound
 pub mod Parted
 pub mod Closes

@@ -7,7 +7,8 @@ use Rattle.rw_terms.specs.declared.term.Formula.TheViews.{out-Formula}
 use Rattle.rw_terms.specs.declared.sequent.Sequent.{Sequent}
 use Rattle.rw_goals.specs.declared.closing.Closing.{Closing}
 use Rattle.rw_goals.specs.declared.closing.Closing.TheVariants as closing
-use Rattle.rw_goals.specs.Same.{same_term, same_formula}
+use Rattle.rw_goals.specs.Causes as causes
+use Rattle.rw_terms.specs.Same.{same_term, same_formula}
 use Rattle.rw_goals.specs.Premises.{Effect, Fails, Premises}
 
 -- some left formula is the same as some right one
@@ -32,7 +33,7 @@ is_reflexive _ = false
 -- no premise is left, or the goal is not of the rule's form
 abbrev pub closes_if : Bool → Effect
 closes_if true = Premises []
-closes_if false = Fails 0 4
+closes_if false = Fails 0 causes.shape
 
 -- what each of them makes of a goal
 abbrev pub closed_by : Closing → Sequent → Effect

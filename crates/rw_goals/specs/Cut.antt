@@ -6,6 +6,7 @@ use Rattle.rw_terms.specs.Size.{formula_weight, formula_depth}
 use Rattle.rw_goals.specs.declared.added.Parts.{Parts}
 use Rattle.rw_goals.specs.declared.added.Parts.TheVariants.{Fails, One, Two}
 use Rattle.rw_goals.specs.declared.library.Library.{Library}
+use Rattle.rw_goals.specs.Causes as causes
 use Rattle.rw_goals.specs.Sorting.{keeps_rules}
 use Rattle.rw_goals.specs.Premises.{Effect, effect, nothing, on_left, on_right}
 
@@ -15,8 +16,8 @@ is_large f = ltb 1024 (formula_weight f) || ltb 64 (formula_depth f)
 
 -- the formula to show, and then to use, if it keeps the rules of sorts and the limits
 abbrev pub cut_parts : Bool → Bool → Formula → Parts
-cut_parts false large f = Fails 6
-cut_parts true true f = Fails 7
+cut_parts false large f = Fails causes.sort
+cut_parts true true f = Fails causes.too_large
 cut_parts true false f = Two (on_right (f ∷ [])) (on_left (f ∷ []))
 
 -- what a cut with a formula makes of a goal

@@ -8,6 +8,7 @@ use Rattle.rw_goals.specs.declared.added.Parts.{Parts}
 use Rattle.rw_goals.specs.declared.added.Parts.TheVariants as parts
 use Rattle.rw_goals.specs.declared.outcome.Outcome.{Outcome}
 use Rattle.rw_goals.specs.declared.outcome.Outcome.TheVariants as outcome
+use Rattle.rw_goals.specs.Causes as causes
 use Rattle.rw_goals.specs.Weight.{is_heavy}
 
 -- a line fails, with the arithmetic line, or 0, and the cause; or these premises stand for the goal, the first on top
@@ -32,7 +33,7 @@ with_added q a = record { names = q.names ++ a.names; left = q.left ++ a.left; r
 
 -- the premises, unless one passes the limit
 abbrev pub unless_heavy : Bool → List Sequent → Effect
-unless_heavy true premises = Fails 0 7
+unless_heavy true premises = Fails 0 causes.too_large
 unless_heavy false premises = Premises premises
 
 -- the premises, if none passes the limit
@@ -52,7 +53,7 @@ numbered fs (suc i) = slice_get fs i
 
 -- the rule at the principal formula, and the rest of the goal
 abbrev pub principal : Option Formula → Sequent → (Formula → Parts) → Effect
-principal None rest rule = Fails 0 3
+principal None rest rule = Fails 0 causes.no_formula
 principal (Some f) rest rule = effect (rule f) rest
 
 -- the left formula of this number is the principal one, and is taken out

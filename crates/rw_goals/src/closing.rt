@@ -3,11 +3,12 @@
 ghost use Rattle.std.specs.Prelude.{◌≡◌};
 ghost use Rattle.std.specs.List.{list_any};
 ghost use Rattle.rw_terms.specs.declared.term.Formula.TheViews.{out-Formula};
-ghost use Rattle.rw_goals.specs.Same.{same_term, same_formula};
+ghost use Rattle.rw_terms.specs.Same.{same_term, same_formula};
 ghost use Rattle.rw_goals.specs.Premises.{told};
 ghost use Rattle.rw_goals.specs.Closing.{have_common, is_false, is_true, is_reflexive, closes_if, closed_by};
 
-use crate::outcome::{Outcome, SHAPE};
+use crate::causes::SHAPE;
+use crate::outcome::Outcome;
 use rw_terms::sameness::{same, same_term};
 use rw_terms::sequent::Sequent;
 use rw_terms::term::{Formula, Term};

@@ -6,7 +6,8 @@ ghost use Rattle.rw_goals.specs.Premises.{Gives, at_left, at_right};
 ghost use Rattle.rw_goals.specs.Connectives.{left_rule, right_rule, not_left, not_right, and_left, and_right, or_left, or_right, imp_left, imp_right};
 
 use crate::added::{Added, Parts, on_left, on_right};
-use crate::outcome::{NO_FORMULA, Outcome, SHAPE, numbered, put_premises};
+use crate::causes::{NO_FORMULA, SHAPE};
+use crate::outcome::{Outcome, numbered, put_premises};
 use rw_terms::sequent::Sequent;
 use rw_terms::term::Formula;
 use std::alloc::{AllocError, Global};

@@ -5,16 +5,14 @@ ghost use Rattle.rw_goals.specs.Premises.{Gives, nothing, at_left, at_right};
 ghost use Rattle.rw_goals.specs.Cut.{cut, cut_parts, is_large, leave_out};
 
 use crate::added::{Added, Parts, on_left, on_right};
+use crate::causes::{NO_FORMULA, SORT, TOO_LARGE};
 use crate::library::Library;
-use crate::outcome::{NO_FORMULA, Outcome, TOO_LARGE, numbered, put_premises};
+use crate::outcome::{Outcome, numbered, put_premises};
 use crate::sorting::keeps_rules;
 use rw_terms::measure::{depth, weight};
 use rw_terms::sequent::Sequent;
 use rw_terms::term::Formula;
 use std::alloc::{AllocError, Global};
-
-/// A name that is not the goal's, or a wrong sort or count.
-pub const SORT: u8 = 6;
 
 const MOST_PARTS: u32 = 1024;
 

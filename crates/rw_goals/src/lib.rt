@@ -2,6 +2,7 @@
 #![tactic(auto)]
 
 pub mod added;
+pub mod causes;
 pub mod closing;
 pub mod connectives;
 pub mod cut;

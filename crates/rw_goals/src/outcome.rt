@@ -4,19 +4,11 @@ ghost use Rattle.std.specs.Prelude.{◌≡◌, IfOk, option_copied};
 ghost use Rattle.rw_goals.specs.Premises.{Gives, effect, with_added, numbered};
 
 use crate::added::{Added, Parts};
+use crate::causes::TOO_LARGE;
 use crate::room::has_room;
 use rw_terms::sequent::Sequent;
 use rw_terms::term::Formula;
 use std::alloc::{AllocError, Global};
-
-/// No formula of the goal has the number.
-pub const NO_FORMULA: u8 = 3;
-
-/// The goal or the principal formula is not of the rule's form.
-pub const SHAPE: u8 = 4;
-
-/// Past a limit.
-pub const TOO_LARGE: u8 = 7;
 
 /// What a line does to a goal.
 #[derive(Drop)]

@@ -3,13 +3,14 @@
 ghost use Rattle.std.specs.Prelude.{◌≡◌, [], ◌∷◌, ◌≤◌, length, map, slice_get, find, IfOk, option_copied};
 ghost use Rattle.std.specs.Option.{option_map};
 ghost use Rattle.rw_terms.specs.Named.{is_named};
-ghost use Rattle.rw_terms.specs.Formed.{is_sort, same_sort};
 ghost use Rattle.rw_terms.specs.Rules.{of_literal, of_int, of_ints, of_read, of_put, instead, is_of, are_of, may_equal_of};
 ghost use Rattle.rw_goals.specs.Sorting.{name_sort, sort_of, keeps_rules, takes};
 
 use crate::library::{Item, parameters_of};
 use rw_items::{Items, at};
+use rw_terms::formed::{bind, is_sort};
 use rw_terms::name::Name;
+use rw_terms::sameness::same_sort;
 use rw_terms::term::{Formula, Sort, Term};
 use std::alloc::{AllocError, Global};
 
@@ -160,38 +161,6 @@ fn is_of(sort: Sort, other: Option<Sort>) -> bool
         Some(other) => same_sort(sort, other),
         None => false,
     }
-}
-
-/// Whether two sorts are one.
-pub fn same_sort(one: Sort, other: Sort) -> bool
-    ensures { result ≡ same_sort one other }
-{
-    match (one, other) {
-        (Sort::Int, Sort::Int) => true,
-        (Sort::Array(m), Sort::Array(n)) => m == n,
-        _ => false,
-    }
-}
-
-fn is_sort(sort: Sort) -> bool
-    ensures { result ≡ is_sort sort }
-{
-    match sort {
-        Sort::Int => true,
-        Sort::Array(n) => 1 <= n && n <= 1024,
-    }
-}
-
-// The binders with one more inside.
-fn bind(alloc: Global, sort: Sort, binders: &[Sort]) -> Result<Items<Sort>, AllocError>
-    ensures { IfOk result (λ inner. inner ≡ sort ∷ binders.now) }
-{
-    let mut inner = Items::new(alloc);
-    inner.push(sort)?;
-    for binder in binders {
-        inner.push(*binder)?;
-    }
-    Ok(inner)
 }
 
 fn takes(

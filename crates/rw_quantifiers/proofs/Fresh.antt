@@ -1,5 +1,6 @@
 -- States with a value for a name that a goal does not have.
 use Rattle.std.proofs.Common.{◌≡◌, ◌↔◌, ℕ, ◌||◌, Bool, true, false, cond, if◌then◌else◌, List, [], ◌∷◌, ◌++◌, find, Option, Some, None, refl, sym, ◌∙◌, ap, subst, bytes_eq, true≢false, IsTrue}
+use Rattle.std.proofs.lemmas.Bool.{or_parts}
 use Rattle.std.specs.List.{list_any}
 use Rattle.std.proofs.lemmas.Slice.Eq.{bytes_eq-Decides}
 use Rattle.rw_terms.specs.declared.term.Sort.{Sort}
@@ -15,23 +16,12 @@ use Rattle.rw_terms.specs.Truth.{Definition, holds}
 use Rattle.rw_terms.specs.Validity.{Each, FitsNamed, FitsNames}
 use Rattle.rw_terms.proofs.Agree.{truth_ignores}
 
-left_false : (a b : Bool) → (a || b) ≡ false → a ≡ false
-left_false true b e = e
-left_false false b e = refl
-
-right_false : (a b : Bool) → (a || b) ≡ false → b ≡ false
-right_false true b e = absurd (true≢false e)
-right_false false b e = e
-
-pub neither : (a b : Bool) → (a || b) ≡ false → (a ≡ false) × (b ≡ false)
-neither a b e = (left_false a b e, right_false a b e)
-
 abbrev pub Unmentioned : List ℕ → Formula → Type 0
 Unmentioned y f = ¬ (IsTrue (formula_mentions y f))
 
 pub unmentioned : (y : List ℕ) (fs : List Formula) → formulas_mention y fs ≡ false → Each (Unmentioned y) fs
 unmentioned y [] e = tt
-unmentioned y (f ∷ fs) e = (λ t. true≢false (sym t ∙ left_false _ _ e), unmentioned y fs (right_false (formula_mentions y f) _ e))
+unmentioned y (f ∷ fs) e = (λ t. true≢false (sym t ∙ (or_parts _ _ e).0), unmentioned y fs (or_parts (formula_mentions y f) _ e).1)
 
 not_first : (b : Bool) (m : Named) (o : Option Named) (c : Bool) → (b || c) ≡ false → (c ≡ false → o ≡ None) → cond b (Some m) o ≡ None
 not_first true m o c e k = absurd (true≢false e)
@@ -79,7 +69,7 @@ new_value y w s0 s =
     ∙ fold-roll-Term Value (value_step (value_in (with_value y w s)) (value_in s0) (value_in (with_value y w s)) []) (Term-F.Var y)
     ∙ has_it y w s
 
--- a formula that does not mention the name holds in both or in neither
+-- a formula that does not mention the name holds in both or in or_parts
 pub kept : (library : List Definition) (y : List ℕ) (w : Value) (s0 s : State) (f : Formula) → Unmentioned y f → (b : List Value) →
     holds library f s0 s b ↔ holds library f (with_value y w s0) (with_value y w s) b
 kept library y w s0 s f n b = truth_ignores library f y n w w s0 s b

@@ -1,10 +1,9 @@
 -- The rules of quantifiers are sound.
-use Rattle.std.proofs.Common.{◌≡◌, ◌↔◌, ℕ, ◌-◌, ◌&&◌, Bool, true, false, List, [], ◌∷◌, remove, reverse, Option, Some, None, refl, sym, ◌∙◌, ap, subst, true≢false}
+use Rattle.std.proofs.Common.{◌≡◌, ◌↔◌, ℕ, ◌-◌, Bool, true, false, List, [], ◌∷◌, remove, reverse, Option, Some, None, refl, sym, ◌∙◌, ap, subst, true≢false}
+use Rattle.std.proofs.lemmas.Bool.{and_from, or_parts}
 use Rattle.std.specs.Prelude.{is_some}
 use Rattle.std.specs.List.{list_any}
-use Rattle.std.proofs.lemmas.Bool.Decides.{Decides-eqb}
 use Rattle.rw_terms.specs.declared.term.Sort.{Sort}
-use Rattle.rw_terms.specs.declared.term.Sort.TheVariants.{Int, Array}
 use Rattle.rw_terms.specs.declared.term.Term.{Term}
 use Rattle.rw_terms.specs.declared.term.Term.TheVariants as terms
 use Rattle.rw_terms.specs.declared.term.Term.TheOpen.{Term-F}
@@ -18,13 +17,13 @@ use Rattle.rw_terms.specs.declared.term.Formula.TheFolds.{fold-roll-Formula}
 use Rattle.rw_terms.specs.declared.sequent.Sequent.{Sequent}
 use Rattle.rw_terms.specs.Mentions.{formula_mentions_step, formula_mentions, formulas_mention}
 use Rattle.rw_terms.specs.Named.{Named, is_named}
-use Rattle.rw_terms.specs.Formed.{same_sort}
 use Rattle.rw_terms.specs.Rules.{is_of}
 use Rattle.rw_terms.specs.State.{Value, State, value_in, HasSort, with_value}
 use Rattle.rw_terms.specs.Value.{value}
 use Rattle.rw_terms.specs.Truth.{Definition, predicates_of, holds}
 use Rattle.rw_terms.specs.Validity.{Each, FitsNames, Valid}
 use Rattle.rw_terms.proofs.Truths.{holds_stable, predicates_stable}
+use Rattle.rw_terms.proofs.Decides.{sort_told}
 use Rattle.rw_subst.specs.Closed.{closed_step, is_closed}
 use Rattle.rw_subst.specs.Replaced.{opened}
 use Rattle.rw_subst.proofs.Replacing.{opening_holds_in_states}
@@ -35,7 +34,7 @@ use Rattle.rw_goals.proofs.Sound as sound
 use Rattle.rw_goals.proofs.Sound.{Holds, Denies, HoldsAt, AllValid, one_valid, one_refuted, joined, taken}
 use Rattle.rw_goals.proofs.Places.{without_left, without_right, left_sound, right_sound, beside_left_sound, beside_right_sound}
 use Rattle.rw_quantifiers.specs.Quantified.{if_small, instance, typed_left, typed_right, all_left, any_right, all_at_left, any_at_right, is_known, fresh_left, fresh_right, all_right, any_left, all_at_right, any_at_left}
-use Rattle.rw_quantifiers.proofs.Fresh.{neither, Unmentioned, unmentioned, unnamed, fits_more, new_value, kept, each_kept}
+use Rattle.rw_quantifiers.proofs.Fresh.{Unmentioned, unmentioned, unnamed, fits_more, new_value, kept, each_kept}
 
 -- a term of a sort over names has no loose binder
 module _ (names : List Named) where
@@ -54,10 +53,6 @@ module _ (names : List Named) where
   abbrev under : Layer → Term-F Term
   under = map-Term ((t : Term) × IsClosed t) Term (λ e. e.0)
 
-  both_true : (a b : Bool) → a ≡ true → b ≡ true → (a && b) ≡ true
-  both_true true b e f = f
-  both_true false b e f = absurd (true≢false (sym e))
-
   closed_layer : (y : Layer) → Known (sort_step names [] (map-Term Term (Option Sort) sorts (under y))) → closed_step (map-Term Term Bool is_closed (under y)) ≡ true
   closed_layer (Term-F.Lit n) k = refl
   closed_layer (Term-F.Var x) k = refl
@@ -65,13 +60,13 @@ module _ (names : List Named) where
   closed_layer (Term-F.Const x) k = refl
   closed_layer (Term-F.Bound j) k = absurd (true≢false (sym k ∙ ap is_some (none_there j)))
   closed_layer (Term-F.Neg a) k = a.1 (int_known _ k)
-  closed_layer (Term-F.Add a c) k = let p = ints_known (sorts a.0) (sorts c.0) k in both_true _ _ (a.1 p.0) (c.1 p.1)
-  closed_layer (Term-F.Sub a c) k = let p = ints_known (sorts a.0) (sorts c.0) k in both_true _ _ (a.1 p.0) (c.1 p.1)
-  closed_layer (Term-F.Mul a c) k = let p = ints_known (sorts a.0) (sorts c.0) k in both_true _ _ (a.1 p.0) (c.1 p.1)
-  closed_layer (Term-F.Div a c) k = let p = ints_known (sorts a.0) (sorts c.0) k in both_true _ _ (a.1 p.0) (c.1 p.1)
-  closed_layer (Term-F.Mod a c) k = let p = ints_known (sorts a.0) (sorts c.0) k in both_true _ _ (a.1 p.0) (c.1 p.1)
-  closed_layer (Term-F.Read a c) k = let p = read_known (sorts a.0) (sorts c.0) k in both_true _ _ (a.1 p.0) (c.1 p.1)
-  closed_layer (Term-F.Put a c d) k = let p = put_known (sorts a.0) (sorts c.0) (sorts d.0) k in both_true _ _ (a.1 p.0) (both_true _ _ (c.1 p.1) (d.1 p.2))
+  closed_layer (Term-F.Add a c) k = let p = ints_known (sorts a.0) (sorts c.0) k in and_from _ _ (a.1 p.0) (c.1 p.1)
+  closed_layer (Term-F.Sub a c) k = let p = ints_known (sorts a.0) (sorts c.0) k in and_from _ _ (a.1 p.0) (c.1 p.1)
+  closed_layer (Term-F.Mul a c) k = let p = ints_known (sorts a.0) (sorts c.0) k in and_from _ _ (a.1 p.0) (c.1 p.1)
+  closed_layer (Term-F.Div a c) k = let p = ints_known (sorts a.0) (sorts c.0) k in and_from _ _ (a.1 p.0) (c.1 p.1)
+  closed_layer (Term-F.Mod a c) k = let p = ints_known (sorts a.0) (sorts c.0) k in and_from _ _ (a.1 p.0) (c.1 p.1)
+  closed_layer (Term-F.Read a c) k = let p = read_known (sorts a.0) (sorts c.0) k in and_from _ _ (a.1 p.0) (c.1 p.1)
+  closed_layer (Term-F.Put a c d) k = let p = put_known (sorts a.0) (sorts c.0) (sorts d.0) k in and_from _ _ (a.1 p.0) (and_from _ _ (c.1 p.1) (d.1 p.2))
   closed_layer (Term-F.Fun f args) k = absurd (true≢false (sym k))
 
   closed_at : (y : Layer) → IsClosed (roll-Term (under y))
@@ -86,15 +81,9 @@ var_closed : (y : List ℕ) → is_closed (terms.Var y) ≡ true
 var_closed y = ap is_closed (sym (terms.rolls-Var y)) ∙ fold-roll-Term Bool closed_step (Term-F.Var y)
 
 -- what the test of a sort says
-same_sorts : (s t : Sort) → same_sort s t ≡ true → s ≡ t
-same_sorts Int Int e = refl
-same_sorts (Array m) (Array n) e = ap Array ((Decides-eqb m n).0 e)
-same_sorts Int (Array n) e = absurd (true≢false (sym e))
-same_sorts (Array m) Int e = absurd (true≢false (sym e))
-
 pub of_sort : (o : Option Sort) (s : Sort) → is_of s o ≡ true → o ≡ Some s
 of_sort None s e = absurd (true≢false (sym e))
-of_sort (Some t) s e = ap Some (sym (same_sorts s t e))
+of_sort (Some t) s e = ap Some (sym (sort_told s t e))
 
 pub known : (o : Option Sort) (s : Sort) → o ≡ Some s → is_some o ≡ true
 known None s e = absurd (cc)
@@ -203,8 +192,8 @@ module _ (library : List Definition) where
   -- what is not known to a goal
   not_known : (q : Sequent) (y : List ℕ) → is_known y q ≡ false → (list_any (is_named y) q.names ≡ false) × Each (Unmentioned y) q.left × Each (Unmentioned y) q.right
   not_known q y e =
-      let p = neither (list_any (is_named y) q.names) _ e in
-      let r = neither (formulas_mention y q.left) _ p.1 in
+      let p = or_parts (list_any (is_named y) q.names) _ e in
+      let r = or_parts (formulas_mention y q.left) _ p.1 in
       (p.0, unmentioned y q.left r.0, unmentioned y q.right r.1)
 
   all_right_known : (q : Sequent) (n : ℕ) (y : List ℕ) (sort : Sort) (a : Formula) → Unmentioned y a → Each (Unmentioned y) (remove q.right (n - 1)) → (b large : Bool) → is_known y q ≡ b →

@@ -12,20 +12,18 @@ ghost use Rattle.rw_goals.specs.Sorting.{sort_of};
 ghost use Rattle.rw_quantifiers.specs.Quantified.{instance, all_left, any_right, all_at_left, any_at_right, is_known, new_left, new_right, all_right, any_left, all_at_right, any_at_left, beside_left, beside_right};
 
 use rw_goals::added::{Added, Parts};
-use rw_goals::cut::SORT;
-use rw_goals::outcome::{NO_FORMULA, Outcome, SHAPE, TOO_LARGE, numbered, put_premises};
-use rw_goals::sorting::{same_sort, sort_of};
+use rw_goals::causes::{NO_FORMULA, NOT_FRESH, SHAPE, SORT, TOO_LARGE};
+use rw_goals::outcome::{Outcome, numbered, put_premises};
+use rw_goals::sorting::sort_of;
 use rw_items::Boxed;
 use rw_subst::error::SubstError;
 use rw_subst::replace::open;
 use rw_terms::mention::free_in;
 use rw_terms::name::Name;
+use rw_terms::sameness::same_sort;
 use rw_terms::sequent::Sequent;
 use rw_terms::term::{Formula, Sort, Term};
 use std::alloc::{AllocError, Global};
-
-/// The name is one of the goal's.
-pub const NOT_FRESH: u8 = 5;
 
 /// The instance by a term of the left universal formula of this number, which stays.
 pub fn all_at_left(

@@ -1,6 +1,7 @@
 -- The goals after the lines of a certificate, and what they say of it.
 use Rattle.std.specs.Prelude.{◌≡◌, ◌<◌, ℕ, ◌+◌, ltb, Bool, true, false, List, [], ◌∷◌, ◌++◌, length, take, Option, Some, None}
 use Rattle.rw_terms.specs.declared.sequent.Sequent.{Sequent}
+use Rattle.rw_goals.specs.Causes as causes
 use Rattle.rw_goals.specs.declared.library.Library.{Library}
 use Rattle.rw_goals.specs.Premises.{Effect, Fails, Premises}
 use Rattle.rw_sequents.specs.declared.check.Fault.{Fault}
@@ -22,7 +23,7 @@ pub data Progress : Type 0 where
 
 -- the goals, unless they are more than 64
 abbrev pub capped : Bool → List Sequent → ℕ → Progress
-capped true goals n = Failed n 0 7
+capped true goals n = Failed n 0 causes.too_large
 capped false goals n = Open goals
 
 -- the premises in place of the top goal
@@ -35,7 +36,7 @@ module _ (library : Library) (before : ℕ) where
   -- the line of number n
   abbrev pub step : Progress → CertLine → ℕ → Progress
   step (Failed line sub cause) l n = Failed line sub cause
-  step (Open []) l n = Failed n 0 1
+  step (Open []) l n = Failed n 0 causes.no_goal
   step (Open (q ∷ rest)) l n = replaced (after_line library before q l) rest n
 
   -- after lines of which the first has number n
@@ -59,7 +60,7 @@ progress (Some fault) goals n = Failed n fault.sub fault.cause
 -- what is said of a certificate with so many lines
 abbrev pub told : Progress → ℕ → Verdict
 told (Open []) lines = Good
-told (Open (q ∷ rest)) lines = Bad (lines + 1) 0 2
+told (Open (q ∷ rest)) lines = Bad (lines + 1) 0 causes.unclosed
 told (Failed line sub cause) lines = Bad line sub cause
 
 -- what is said of a certificate of the goal by a library

@@ -15,6 +15,7 @@ use rw_axioms::axioms::{division, extension, put_other, put_same};
 use rw_citations::citing::cite;
 use rw_citations::unfolding::{unfold_at_left, unfold_at_right};
 use rw_equations::equality::{exchange, rewrite_left, rewrite_right, split_equation};
+use rw_goals::causes::{BAD_LINE, NO_CONTRADICTION, WIDE};
 use rw_goals::closing::{Closing, close};
 use rw_goals::connectives::{Connective, take_apart_left, take_apart_right};
 use rw_goals::cut::{cut, drop_left, drop_right};
@@ -25,15 +26,6 @@ use rw_steps::Steps;
 use rw_terms::sequent::Sequent;
 use std::alloc::{AllocError, Global};
 use std::sync::ledger::Ledger;
-
-/// An arithmetic line is none.
-const BAD_LINE: u8 = 9;
-
-/// A number passes 128 bits.
-const WIDE: u8 = 10;
-
-/// The last arithmetic line is no contradiction.
-const NO_CONTRADICTION: u8 = 11;
 
 /// Applies a line to a goal, which is changed in place. Lemmas may be cited below the table place `before`.
 pub fn apply_line<L: Ledger>(

@@ -10,8 +10,9 @@ ghost use Rattle.rw_sequents.specs.After.{Open, step, progress, capped, verdict,
 use crate::after::apply_line;
 use crate::error::CheckError;
 use crate::line::{Cert, CertLine, Verdict};
+use rw_goals::causes::{NO_GOAL, TOO_LARGE, UNCLOSED};
 use rw_goals::library::Library;
-use rw_goals::outcome::{Outcome, TOO_LARGE};
+use rw_goals::outcome::Outcome;
 use rw_items::Items;
 use rw_steps::Steps;
 use rw_terms::sequent::Sequent;
@@ -19,10 +20,6 @@ use std::alloc::{AllocError, Global};
 use std::sync::ledger::Ledger;
 
 const MOST_GOALS: usize = 64;
-
-const NO_GOAL: u8 = 1;
-
-const UNCLOSED: u8 = 2;
 
 /// Why a line fails: the arithmetic line, or 0, and the cause.
 #[derive(Clone, Copy, Debug)]

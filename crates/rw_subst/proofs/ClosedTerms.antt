@@ -1,5 +1,6 @@
 -- The binders do not matter to a term that has none.
-use Rattle.std.proofs.Common.{◌≡◌, ℕ, Bool, true, false, ◌&&◌, List, [], slice_get, refl, sym, ap, ◌∙◌, subst, true≢false}
+use Rattle.std.proofs.Common.{◌≡◌, ℕ, Bool, true, false, List, [], slice_get, refl, sym, ap, ◌∙◌, subst, true≢false}
+use Rattle.std.proofs.lemmas.Bool.{and_parts}
 use Rattle.rw_terms.specs.declared.term.Term.{Term}
 use Rattle.rw_terms.specs.declared.term.Term.TheVariants as v
 use Rattle.rw_terms.specs.declared.term.Term.TheOpen.{Term-F}
@@ -12,14 +13,6 @@ use Rattle.rw_subst.specs.declared.slot.Form.TheVariants as form
 use Rattle.rw_subst.specs.Closed.{closed_step, is_closed}
 use Rattle.rw_subst.specs.Looks.{Looks, value_of}
 use Rattle.rw_subst.specs.Slots.{plain}
-
-pub both_left : (a b : Bool) → (a && b) ≡ true → a ≡ true
-both_left true b e = refl
-both_left false b e = e
-
-pub both_right : (a b : Bool) → (a && b) ≡ true → b ≡ true
-both_right true b e = e
-both_right false b e = absurd (true≢false (sym e))
 
 module _ (looks : Looks) (b : List Value) where
   abbrev here : Term-F Value → Value
@@ -45,15 +38,15 @@ module _ (looks : Looks) (b : List Value) where
   same_layer (Term-F.Const x) e = refl
   same_layer (Term-F.Bound k) e = absurd (true≢false (sym e))
   same_layer (Term-F.Neg a) e = λ i. here (Term-F.Neg (a.1 e i))
-  same_layer (Term-F.Add a c) e = λ i. here (Term-F.Add (a.1 (both_left _ _ e) i) (c.1 (both_right (is_closed a.0) _ e) i))
-  same_layer (Term-F.Sub a c) e = λ i. here (Term-F.Sub (a.1 (both_left _ _ e) i) (c.1 (both_right (is_closed a.0) _ e) i))
-  same_layer (Term-F.Mul a c) e = λ i. here (Term-F.Mul (a.1 (both_left _ _ e) i) (c.1 (both_right (is_closed a.0) _ e) i))
-  same_layer (Term-F.Div a c) e = λ i. here (Term-F.Div (a.1 (both_left _ _ e) i) (c.1 (both_right (is_closed a.0) _ e) i))
-  same_layer (Term-F.Mod a c) e = λ i. here (Term-F.Mod (a.1 (both_left _ _ e) i) (c.1 (both_right (is_closed a.0) _ e) i))
-  same_layer (Term-F.Read a c) e = λ i. here (Term-F.Read (a.1 (both_left _ _ e) i) (c.1 (both_right (is_closed a.0) _ e) i))
+  same_layer (Term-F.Add a c) e = λ i. here (Term-F.Add (a.1 (and_parts _ _ e).0 i) (c.1 (and_parts (is_closed a.0) _ e).1 i))
+  same_layer (Term-F.Sub a c) e = λ i. here (Term-F.Sub (a.1 (and_parts _ _ e).0 i) (c.1 (and_parts (is_closed a.0) _ e).1 i))
+  same_layer (Term-F.Mul a c) e = λ i. here (Term-F.Mul (a.1 (and_parts _ _ e).0 i) (c.1 (and_parts (is_closed a.0) _ e).1 i))
+  same_layer (Term-F.Div a c) e = λ i. here (Term-F.Div (a.1 (and_parts _ _ e).0 i) (c.1 (and_parts (is_closed a.0) _ e).1 i))
+  same_layer (Term-F.Mod a c) e = λ i. here (Term-F.Mod (a.1 (and_parts _ _ e).0 i) (c.1 (and_parts (is_closed a.0) _ e).1 i))
+  same_layer (Term-F.Read a c) e = λ i. here (Term-F.Read (a.1 (and_parts _ _ e).0 i) (c.1 (and_parts (is_closed a.0) _ e).1 i))
   same_layer (Term-F.Put a c d) e =
-      let rest = both_right (is_closed a.0) _ e in
-      λ i. here (Term-F.Put (a.1 (both_left _ _ e) i) (c.1 (both_left _ _ rest) i) (d.1 (both_right (is_closed c.0) _ rest) i))
+      let rest = (and_parts (is_closed a.0) _ e).1 in
+      λ i. here (Term-F.Put (a.1 (and_parts _ _ e).0 i) (c.1 (and_parts _ _ rest).0 i) (d.1 (and_parts (is_closed c.0) _ rest).1 i))
   same_layer (Term-F.Fun f args) e = refl
 
   same_at : (y : Layer) → Same (roll-Term (under y))

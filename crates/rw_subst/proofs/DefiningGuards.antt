@@ -1,5 +1,6 @@
 -- The law of definedness of guards.
 use Rattle.std.proofs.Common.{◌≡◌, ◌↔◌, Bool, true, false, ◌&&◌, is_some, List, [], ◌++◌, Some, sym, ◌∙◌, subst, true≢false}
+use Rattle.std.proofs.lemmas.Bool.{and_parts}
 use Rattle.rw_terms.specs.declared.scope.Entry.{Entry}
 use Rattle.rw_terms.specs.declared.scope.Head.{Head}
 use Rattle.rw_terms.specs.declared.term.Sort.{Sort}
@@ -11,12 +12,11 @@ use Rattle.rw_terms.specs.declared.term.Formula.TheViews.{roll-Formula}
 use Rattle.rw_terms.specs.declared.term.Formula.TheFolds.{map-Formula, ind-Formula, fold-roll-Formula}
 use Rattle.rw_terms.specs.State.{State, Fits}
 use Rattle.rw_terms.specs.Truth.{Definition}
-use Rattle.rw_terms.specs.Rules.{of_ints, may_equal_of, sort_in, keeps_step, keeps_rules}
+use Rattle.rw_terms.specs.Rules.{of_ints, sort_in, keeps_step, keeps_rules}
 use Rattle.rw_terms.specs.Defined.{TermsDefined, Defined, GuardDefined}
 use Rattle.rw_terms.proofs.Agree.{and_iff}
 use Rattle.rw_subst.specs.Definedness.{conditions, guard_conditions_step, guard_conditions}
 use Rattle.rw_subst.specs.Guards.{guard_step, is_guard, DefinednessOfGuards}
-use Rattle.rw_subst.proofs.ClosedTerms.{both_left, both_right}
 use Rattle.rw_subst.proofs.Every.{OfFormulaParts, every_formula}
 use Rattle.rw_subst.proofs.WellSorted.{compared_parts, equal_parts}
 use Rattle.rw_subst.proofs.Defining.{then, back, before, each_append, IsTrueHere, AllHold, conj_holds, term_claim}
@@ -52,7 +52,7 @@ module _ (scope : List Entry) (heads : List Head) (library : List Definition) (s
       holding (guard_conditions scope f.0 ++ guard_conditions scope g.0) ↔ (Unit {0} × (GuardDefined s0 s f.0 × GuardDefined s0 s g.0))
   two_formulas f g e h =
       then (each_append (IsTrueHere scope library s0 s fits0 fits) (guard_conditions scope f.0) (guard_conditions scope g.0))
-      (then (and_iff (f.1 (both_left (is_guard f.0) (is_guard g.0) e) (both_left (keeps f.0 []) (keeps g.0 []) h)) (g.1 (both_right (is_guard f.0) (is_guard g.0) e) (both_right (keeps f.0 []) (keeps g.0 []) h))) before)
+      (then (and_iff (f.1 (and_parts (is_guard f.0) (is_guard g.0) e).0 (and_parts (keeps f.0 []) (keeps g.0 []) h).0) (g.1 (and_parts (is_guard f.0) (is_guard g.0) e).1 (and_parts (keeps f.0 []) (keeps g.0 []) h).1)) before)
 
   claim_layer : (y : Layer) → guard_step (map-Formula Formula Bool is_guard (under y)) ≡ true → keeps_step scope heads (map-Formula Formula (List Sort → Bool) keeps (under y)) [] ≡ true →
       holding (guard_conditions_step scope (map-Formula Formula (List Formula) (guard_conditions scope) (under y))) ↔ (TermsDefined s0 s (under y) × OfFormulaParts (GuardDefined s0 s) (under y))

@@ -1,5 +1,6 @@
 -- Names stand in a formula that keeps the rules as their kinds allow, and so not both as variable and as constant.
-use Rattle.std.proofs.Common.{◌≡◌, ℕ, Bool, true, false, ◌&&◌, ◌||◌, is_some, List, [], ◌∷◌, map, find, Option, Some, None, refl, sym, ap, ◌∙◌, subst, true≢false, bytes_eq}
+use Rattle.std.proofs.Common.{◌≡◌, ℕ, Bool, true, false, ◌&&◌, ◌||◌, is_some, List, [], ◌∷◌, map, find, Option, Some, None, refl, sym, ap, ◌∙◌, subst, true≢false}
+use Rattle.std.proofs.lemmas.Bool.{and_parts}
 use Rattle.std.specs.Prelude.{option_and_then}
 use Rattle.std.proofs.lemmas.Slice.Eq.{bytes_eq-Decides}
 use Rattle.rw_terms.specs.declared.scope.Entry.{Entry}
@@ -27,7 +28,6 @@ use Rattle.rw_subst.specs.declared.slot.Slot.TheVariants as slot
 use Rattle.rw_subst.specs.Slots.{is_slot}
 use Rattle.rw_subst.specs.Stands.{stands_step, stands_in_term, stands_in_terms, formula_stands_step, stands_in, has_slot}
 use Rattle.rw_subst.specs.Kinds.{is_allowed_as, is_allowed, are_allowed, NamesHaveOneKind, NamesOfTermsHaveOneKind}
-use Rattle.rw_subst.proofs.ClosedTerms.{both_left, both_right}
 use Rattle.rw_subst.proofs.WellSorted.{int_part, int_parts, read_parts, put_parts, compared_parts, equal_parts}
 
 -- a choice that holds, by its two sides
@@ -66,8 +66,8 @@ module _ (scope : List Entry) where
   slots_allowed : (g : Form) (x : List ℕ) (ss : List Slot) → are_allowed scope ss ≡ true → has_slot g x ss ≡ true → is_allowed_as scope g x ≡ true
   slots_allowed g x [] h e = absurd (true≢false (sym e))
   slots_allowed g x (s ∷ ss) h e =
-      either (is_allowed_as scope g x ≡ true) (is_slot g x s) (has_slot g x ss) (λ p. slot_allowed g x s p (both_left (is_allowed scope s) (are_allowed scope ss) h))
-      (slots_allowed g x ss (both_right (is_allowed scope s) (are_allowed scope ss) h)) e
+      either (is_allowed_as scope g x ≡ true) (is_slot g x s) (has_slot g x ss) (λ p. slot_allowed g x s p (and_parts (is_allowed scope s) (are_allowed scope ss) h).0)
+      (slots_allowed g x ss (and_parts (is_allowed scope s) (are_allowed scope ss) h).1) e
 
   module _ (g : Form) (x : List ℕ) where
     abbrev Allowed : Type 0
@@ -126,8 +126,8 @@ module _ (scope : List Entry) where
       terms_allowed ss [] e h = absurd (true≢false (sym h))
       terms_allowed [] (t ∷ ts) e h = absurd (true≢false (sym e))
       terms_allowed (s ∷ ss) (t ∷ ts) e h =
-          let given = has_sort s (sort_of t) (both_left (is_of s (sort_of t)) (are_of ss (map sort_of ts)) e) in
-          either Allowed (stands t) (stands_in_terms g x ts) (term_allowed t given.0 given.1) (terms_allowed ss ts (both_right (is_of s (sort_of t)) (are_of ss (map sort_of ts)) e)) h
+          let given = has_sort s (sort_of t) (and_parts (is_of s (sort_of t)) (are_of ss (map sort_of ts)) e).0 in
+          either Allowed (stands t) (stands_in_terms g x ts) (term_allowed t given.0 given.1) (terms_allowed ss ts (and_parts (is_of s (sort_of t)) (are_of ss (map sort_of ts)) e).1) h
 
       args_allowed : (o : Option Head) (ts : List Term) → applies o (map sort_of ts) ≡ true → stands_in_terms g x ts ≡ true → Allowed
       args_allowed None ts e h = absurd (true≢false (sym e))
@@ -154,7 +154,7 @@ module _ (scope : List Entry) where
 
       both : (f k : (f : Formula) × Claim f) (binders : List Sort) → (keeps f.0 binders && keeps k.0 binders) ≡ true → (has f.0 || has k.0) ≡ true → Allowed
       both f k binders e h =
-          either Allowed (has f.0) (has k.0) (f.1 binders (both_left (keeps f.0 binders) (keeps k.0 binders) e)) (k.1 binders (both_right (keeps f.0 binders) (keeps k.0 binders) e)) h
+          either Allowed (has f.0) (has k.0) (f.1 binders (and_parts (keeps f.0 binders) (keeps k.0 binders) e).0) (k.1 binders (and_parts (keeps f.0 binders) (keeps k.0 binders) e).1) h
 
       layer : (y : Layer) (binders : List Sort) → keeps_step scope heads (map-Formula Formula (List Sort → Bool) keeps (inside y)) binders ≡ true → formula_stands_step g x (map-Formula Formula Bool has (inside y)) ≡ true → Allowed
       layer Formula-F.True binders e h = absurd (true≢false (sym h))
@@ -168,8 +168,8 @@ module _ (scope : List Entry) where
       layer (Formula-F.And f k) binders e h = both f k binders e h
       layer (Formula-F.Or f k) binders e h = both f k binders e h
       layer (Formula-F.Imp f k) binders e h = both f k binders e h
-      layer (Formula-F.All s f) binders e h = f.1 (s ∷ binders) (both_right (is_sort s) (keeps f.0 (s ∷ binders)) e) h
-      layer (Formula-F.Any s f) binders e h = f.1 (s ∷ binders) (both_right (is_sort s) (keeps f.0 (s ∷ binders)) e) h
+      layer (Formula-F.All s f) binders e h = f.1 (s ∷ binders) (and_parts (is_sort s) (keeps f.0 (s ∷ binders)) e).1 h
+      layer (Formula-F.Any s f) binders e h = f.1 (s ∷ binders) (and_parts (is_sort s) (keeps f.0 (s ∷ binders)) e).1 h
       layer (Formula-F.App p args) binders e h = args_allowed binders (find (is_head p) heads) args e h
 
       formula_at : (y : Layer) → Claim (roll-Formula (inside y))

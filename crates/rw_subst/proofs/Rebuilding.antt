@@ -1,5 +1,6 @@
 -- The value of what is built again, by induction: that of the old one, where each leaf has the value of what is put for it.
-use Rattle.std.proofs.Common.{◌≡◌, ◌↔◌, ℕ, suc, Bool, true, false, ◌||◌, List, [], ◌∷◌, map, slice_get, refl, sym, ap, ◌∙◌, subst, true≢false, ◌<ℤ◌, ◌≤ℤ◌, bytes_eq}
+use Rattle.std.proofs.Common.{◌≡◌, ◌↔◌, ℕ, suc, Bool, true, ◌||◌, List, [], ◌∷◌, map, slice_get, refl, sym, ap, ◌∙◌, subst, ◌<ℤ◌, ◌≤ℤ◌, bytes_eq}
+use Rattle.std.proofs.lemmas.Bool.{or_left, or_right}
 use Rattle.std.proofs.lemmas.Slice.Eq.{bytes_eq-Decides}
 use Rattle.rw_terms.specs.declared.term.Term.{Term}
 use Rattle.rw_terms.specs.declared.term.Term.TheVariants as v
@@ -30,14 +31,6 @@ Test = Form → List ℕ → Bool
 abbrev pub Within : Test → Test → Type 0
 Within p q = (g : Form) (x : List ℕ) → p g x ≡ true → q g x ≡ true
 
-left_holds : (a b : Bool) → a ≡ true → (a || b) ≡ true
-left_holds true b e = refl
-left_holds false b e = absurd (true≢false (sym e))
-
-right_holds : (a b : Bool) → b ≡ true → (a || b) ≡ true
-right_holds true b e = refl
-right_holds false b e = e
-
 module _ (leaves : Leaves) (looks looks' : Looks) (test : Test) (R : ℕ → List Value → List Value → Type 0) where
   -- what is put for a name that passes the test has the name's value
   abbrev pub NamesFit : Type 0
@@ -53,10 +46,10 @@ module _ (leaves : Leaves) (looks looks' : Looks) (test : Test) (R : ℕ → Lis
 
   module _ (names : NamesFit) (binders : BindersFit) where
     left : (p q : Test) → Within (λ g x. p g x || q g x) test → Within p test
-    left p q w g x h = w g x (left_holds (p g x) (q g x) h)
+    left p q w g x h = w g x (or_left (p g x) (q g x) h)
 
     right : (p q : Test) → Within (λ g x. p g x || q g x) test → Within q test
-    right p q w g x h = w g x (right_holds (p g x) (q g x) h)
+    right p q w g x h = w g x (or_right (p g x) (q g x) h)
 
     itself : (x : List ℕ) → bytes_eq x x ≡ true
     itself x = (bytes_eq-Decides x x).1 refl

@@ -1,5 +1,6 @@
 -- The laws of replacement, opening and closing.
-use Rattle.std.proofs.Common.{◌≡◌, ℕ, zero, suc, Bool, true, false, ◌&&◌, if◌then◌else◌, List, [], ◌∷◌, map, drop, nat_eq, slice_get, refl, sym, ap, ◌∙◌, true≢false, reverse}
+use Rattle.std.proofs.Common.{◌≡◌, ℕ, zero, suc, Bool, true, false, if◌then◌else◌, List, [], ◌∷◌, map, drop, nat_eq, slice_get, refl, sym, ap, ◌∙◌, true≢false, reverse}
+use Rattle.std.proofs.lemmas.Bool.{and_from, and_parts}
 use Rattle.std.proofs.lemmas.Bool.Decides.{Decides-eqb}
 use Rattle.rw_terms.specs.declared.term.Term.{Term}
 use Rattle.rw_terms.specs.declared.term.Term.TheVariants as v
@@ -15,7 +16,7 @@ use Rattle.rw_subst.specs.Replaced.{changed_leaves, opened_leaves, closed_leaves
 use Rattle.rw_subst.specs.Looks.{Looks, value_of, looks_with, changed_looks, in_states, state_with, initial_with, changed_state, changed_initial}
 use Rattle.rw_subst.specs.Stands.{stands_in_term, stands_in, AreApart}
 use Rattle.rw_subst.specs.Laws.{ReplacementKeepsValues, ReplacementKeepsTruth, ReplacementInStates, ReplacementHoldsInStates, InitialChangesAreClosed, OpeningKeepsTruth, OpeningHoldsInStates, ClosingKeepsTruth, ClosingHoldsInStates}
-use Rattle.rw_subst.proofs.ClosedTerms.{both_left, both_right, closed_value, plain_value, binder_value}
+use Rattle.rw_subst.proofs.ClosedTerms.{closed_value, plain_value, binder_value}
 use Rattle.rw_subst.proofs.Rebuilding.{Test, kept_term, kept_formula}
 use Rattle.rw_subst.proofs.States.{no_clash, with_agrees, changes_agree}
 
@@ -32,7 +33,7 @@ changed_value : (looks : Looks) (b : List Value) (cs : List Change) (g : Form) (
 changed_value looks b [] g x e = plain_value looks b g x
 changed_value looks b (c ∷ cs) g x e =
     if_value (value_of looks b) (is_slot g x c.slot) c.term (changed cs g x) (value_of looks [] c.term) (changed_looks cs looks g x)
-    (closed_value looks b c.term (both_left _ _ e)) (changed_value looks b cs g x (both_right (is_closed c.term) _ e))
+    (closed_value looks b c.term (and_parts _ _ e).0) (changed_value looks b cs g x (and_parts (is_closed c.term) _ e).1)
 
 -- the binders are the same ones
 abbrev SameBinders : ℕ → List Value → List Value → Type 0
@@ -69,10 +70,6 @@ replacement_holds_in_states changes f closed apart library s0 s b =
     (λ k b b' r g x h. changed_in_states (λ g x. stands_in g x f) changes closed apart s0 s b g x h)
     (λ k b b' r j. binder_value (in_states s0 s) b j ∙ ap (λ l. given (slice_get l j)) r) goes_inside (reverse library) f (λ g x h. h) 0 b b refl
 
-both_true : (a b : Bool) → a ≡ true → b ≡ true → (a && b) ≡ true
-both_true true b e h = h
-both_true false b e h = absurd (true≢false (sym e))
-
 init_is_closed : (x : List ℕ) → is_closed (v.Init x) ≡ true
 init_is_closed x = ap is_closed (sym (v.rolls-Init x)) ∙ fold-roll-Term Bool closed_step (Term-F.Init x)
 
@@ -81,11 +78,11 @@ var_is_closed x = ap is_closed (sym (v.rolls-Var x)) ∙ fold-roll-Term Bool clo
 
 to_are_closed : (frame : List (List ℕ)) → are_closed (map to_initial frame) ≡ true
 to_are_closed [] = refl
-to_are_closed (x ∷ xs) = both_true (is_closed (v.Init x)) (are_closed (map to_initial xs)) (init_is_closed x) (to_are_closed xs)
+to_are_closed (x ∷ xs) = and_from (is_closed (v.Init x)) (are_closed (map to_initial xs)) (init_is_closed x) (to_are_closed xs)
 
 from_are_closed : (frame : List (List ℕ)) → are_closed (map from_initial frame) ≡ true
 from_are_closed [] = refl
-from_are_closed (x ∷ xs) = both_true (is_closed (v.Var x)) (are_closed (map from_initial xs)) (var_is_closed x) (from_are_closed xs)
+from_are_closed (x ∷ xs) = and_from (is_closed (v.Var x)) (are_closed (map from_initial xs)) (var_is_closed x) (from_are_closed xs)
 
 pub initial_changes_are_closed : InitialChangesAreClosed
 initial_changes_are_closed frame = (to_are_closed frame, from_are_closed frame)

@@ -1,8 +1,8 @@
--- Formulas joined by `and`.
+-- Formulas joined by `and` and by `or`.
 use Rattle.std.specs.Prelude.{◌≡◌, ◌+◌, min, max, List, [], ◌∷◌, Option, Some, None}
 use Rattle.rw_terms.specs.declared.term.Term.{Term}
 use Rattle.rw_terms.specs.declared.term.Formula.{Formula}
-use Rattle.rw_terms.specs.declared.term.Formula.TheVariants.{True, And}
+use Rattle.rw_terms.specs.declared.term.Formula.TheVariants.{True, False, And, Or}
 use Rattle.rw_terms.specs.Size.{term_weight, term_depth, formula_weight, formula_depth}
 use Rattle.rw_subst.specs.declared.size.Size.{Size}
 
@@ -15,6 +15,16 @@ conj_with f (g ∷ gs) = conj_with (And f g) gs
 abbrev pub conj : List Formula → Formula
 conj [] = True
 conj (f ∷ fs) = conj_with f fs
+
+-- a formula or one of the others behind it, joined from the left
+abbrev pub disj_with : Formula → List Formula → Formula
+disj_with f [] = f
+disj_with f (g ∷ gs) = disj_with (Or f g) gs
+
+-- one of the formulas, joined from the left; of none it is `false`
+abbrev pub disj : List Formula → Formula
+disj [] = False
+disj (f ∷ fs) = disj_with f fs
 
 -- its size, as far as a `u32` tells
 abbrev pub formula_size : Formula → Size

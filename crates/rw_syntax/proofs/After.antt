@@ -2,6 +2,7 @@
 use Rattle.std.proofs.Common.{◌≡◌, ℕ, suc, ◌+◌, ◌≤◌, ◌<◌, Bool, true, false, List, [], ◌∷◌, ◌++◌, length, Some, IsTrue, refl, sym, ap, ◌∙◌, subst, arith, append_assoc, append-nil, length-append}
 use Rattle.std.specs.Prelude.{leb}
 use Rattle.std.proofs.lemmas.Bool.Decides.{nat_tests}
+use Rattle.std.proofs.lemmas.Bool.{le-leb, leb-false}
 use Rattle.rw_syntax.specs.declared.token.Infix.{Infix}
 use Rattle.rw_syntax.specs.declared.token.Token.{Token}
 use Rattle.rw_syntax.specs.declared.token.Token.TheVariants as tokens
@@ -14,7 +15,7 @@ use Rattle.rw_syntax.specs.declared.frame.Frame.TheVariants as frames
 use Rattle.rw_syntax.specs.Grammar.{word, leaf, group, index, call, Trees, none, more, count, level, level_of, left_of, head_level, shut, fits, takes, text, texts, head_token, part, values, read_at, applied, as_term, adds, chain, Reads}
 use Rattle.rw_syntax.specs.Machine.{State, wants, partial, worded, has, hole, scope, frame_hole, ended, begun, extended, closed_frame, closed, indexed_frame, indexed, expects, listed_frame, listed, go_on, word_part, step, run, whole, finish_with, finish}
 use Rattle.rw_syntax.proofs.Stands.{HasLeft, HasBase, HasTerms, may_have, Stands, Has, Words, StateStands}
-use Rattle.rw_syntax.proofs.Choices.{guarded, chained, some_is, le_to, lt_of, fits_to, shut_term, shut_least}
+use Rattle.rw_syntax.proofs.Choices.{guarded, chained, some_is, fits_to, shut_term, shut_least}
 use Rattle.rw_syntax.proofs.Operators.{facts, hole_most}
 use Rattle.rw_syntax.proofs.Sound.{spliced_as, ended_stands, begun_stands, begin_stands, partial_stands}
 
@@ -31,14 +32,14 @@ extended_stands goal op (worded w fs) ts s h e = absurd (cc)
 
 pub group_room : (outer n : ℕ) (only : Bool) → only ≡ leb 6 outer → frame_hole (frames.Group only) ≤ n → outer ≤ 9 → outer ≤ shut n
 group_room outer n true e h o = let z = shut_term n h in omega arith
-group_room outer n false e h o = let q = lt_of 6 outer (sym e) in let z = shut_least n in omega arith
+group_room outer n false e h o = let q = leb-false 6 outer (sym e) in let z = shut_least n in omega arith
 
 pub values_length : (env : List Binder) (ts : Trees) → length (values env ts) ≡ count ts
 values_length env none = refl
 values_length env (more ts t) = length-append (values env ts) (as_term (part env t) ∷ []) ∙ ap (λ n. n + 1) (values_length env ts) ∙ omega arith
 
 expects_more : (h : Head) (n m : ℕ) → n ≡ m → expects h n ≡ true → may_have h (suc m) ≡ true
-expects_more heads.Put n m z e = let q : m < 2 = grind (arith, nat_tests) in le_to (suc m) 2 (omega arith)
+expects_more heads.Put n m z e = let q : m < 2 = grind (arith, nat_tests) in le-leb (suc m) 2 (omega arith)
 expects_more (heads.Named w) n m z e = refl
 
 pub fit_term : (n m : ℕ) → 6 ≤ n → m ≡ n → IsTrue (fits 6 m)

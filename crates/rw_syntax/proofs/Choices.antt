@@ -1,6 +1,6 @@
 -- What the tests and the options of the machine say.
 use Rattle.std.proofs.Common.{◌≡◌, ℕ, ◌≤◌, ◌<◌, Bool, true, false, cond, Option, Some, None, IsTrue, refl, arith}
-use Rattle.std.specs.Prelude.{leb, option_and_then}
+use Rattle.std.specs.Prelude.{option_and_then}
 use Rattle.std.proofs.lemmas.Bool.Decides.{nat_tests}
 use Rattle.rw_syntax.specs.Grammar.{fits, shut}
 
@@ -14,18 +14,6 @@ chained f (Some x) y e = (x, refl, e)
 
 pub some_is : {A : Type 0} {x y : A} → Some x ≡ Some y → x ≡ y
 some_is e = cc
-
-pub le_of : (a b : ℕ) → leb a b ≡ true → a ≤ b
-le_of a b e = grind (arith, nat_tests)
-
-pub le_to : (a b : ℕ) → a ≤ b → leb a b ≡ true
-le_to a b h = grind (arith, nat_tests)
-
-pub lt_to : (a b : ℕ) → b < a → leb a b ≡ false
-lt_to a b h = grind (arith, nat_tests)
-
-pub lt_of : (a b : ℕ) → leb a b ≡ false → b < a
-lt_of a b e = grind (arith, nat_tests)
 
 pub fits_of : (a b : ℕ) → IsTrue (fits a b) → (a ≤ b) × (a < 6 → b < 6)
 fits_of a b e = (grind (arith, nat_tests), grind (arith, nat_tests))

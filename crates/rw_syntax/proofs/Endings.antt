@@ -6,7 +6,7 @@ use Rattle.rw_syntax.specs.declared.frame.Frame.{Frame}
 use Rattle.rw_syntax.specs.declared.frame.Frame.TheVariants as frames
 use Rattle.rw_syntax.specs.Grammar.{fits}
 use Rattle.rw_syntax.specs.Machine.{has, frame_level, frame_hole, frame_chain, frame_nest, stack_nest, made, ended, top_level}
-use Rattle.rw_syntax.proofs.Choices.{le_to, lt_to}
+use Rattle.std.proofs.lemmas.Bool.{le-leb, lt-leb}
 
 turn : (bound : ℕ) (v : Part) (n c : ℕ) (f : Frame) (fs : List Frame) (b : Bool) → leb bound (frame_level f) ≡ b → ended bound v n c (f ∷ fs) ≡ cond b (cond (fits (frame_hole f) n) (ended bound (made f v) (frame_level f) (frame_chain f) fs) None) (Some (has v n c (f ∷ fs)))
 unfolding ended
@@ -15,17 +15,17 @@ turn bound v n c f fs b e = ap (λ x. cond x (cond (fits (frame_hole f) n) (ende
 pub ended_top : (bound : ℕ) (v : Part) (n c : ℕ) (stack : List Frame) (f : Frame) (fs : List Frame) → stack ≡ f ∷ fs → bound ≤ top_level stack → fits (frame_hole f) n ≡ true → ended bound v n c stack ≡ ended bound (made f v) (frame_level f) (frame_chain f) fs
 ended_top bound v n c stack f fs e h k =
     let q : bound ≤ frame_level f = rw e at h in
-    ap (ended bound v n c) e ∙ turn bound v n c f fs true (le_to bound (frame_level f) q) ∙ ap (λ b. cond b (ended bound (made f v) (frame_level f) (frame_chain f) fs) None) k
+    ap (ended bound v n c) e ∙ turn bound v n c f fs true (le-leb bound (frame_level f) q) ∙ ap (λ b. cond b (ended bound (made f v) (frame_level f) (frame_chain f) fs) None) k
 
 pub ended_mismatch : (bound : ℕ) (v : Part) (n c : ℕ) (stack : List Frame) (f : Frame) (fs : List Frame) → stack ≡ f ∷ fs → bound ≤ top_level stack → fits (frame_hole f) n ≡ false → ended bound v n c stack ≡ None
 ended_mismatch bound v n c stack f fs e h k =
     let q : bound ≤ frame_level f = rw e at h in
-    ap (ended bound v n c) e ∙ turn bound v n c f fs true (le_to bound (frame_level f) q) ∙ ap (λ b. cond b (ended bound (made f v) (frame_level f) (frame_chain f) fs) None) k
+    ap (ended bound v n c) e ∙ turn bound v n c f fs true (le-leb bound (frame_level f) q) ∙ ap (λ b. cond b (ended bound (made f v) (frame_level f) (frame_chain f) fs) None) k
 
 pub ended_stops : (bound : ℕ) (v : Part) (n c : ℕ) (stack : List Frame) → top_level stack < bound → ended bound v n c stack ≡ Some (has v n c stack)
 unfolding ended
 ended_stops bound v n c [] h = refl
-ended_stops bound v n c (f ∷ fs) h = turn bound v n c f fs false (lt_to bound (frame_level f) h)
+ended_stops bound v n c (f ∷ fs) h = turn bound v n c f fs false (lt-leb bound (frame_level f) h)
 
 pub not_empty : (bound : ℕ) (stack : List Frame) → stack ≡ [] → 1 ≤ bound → bound ≤ top_level stack → ⊥
 not_empty bound stack e o h = let q : bound ≤ 0 = rw e at h in omega arith

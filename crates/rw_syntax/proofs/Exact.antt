@@ -1,12 +1,13 @@
 -- The machine goes on over tokens exactly where they can go on, and ends with a value exactly where they spell it.
 use Rattle.std.proofs.Common.{◌≡◌, ℕ, suc, ◌≤◌, cond, List, [], ◌∷◌, ◌++◌, length, take, Option, Some, None, IsTrue, refl, sym, ap, ◌∙◌, subst}
 use Rattle.std.specs.Prelude.{leb, option_and_then}
+use Rattle.std.proofs.lemmas.Bool.{leb-true, le-leb}
 use Rattle.rw_syntax.specs.declared.token.Token.{Token}
 use Rattle.rw_syntax.specs.declared.frame.Part.{Part}
 use Rattle.rw_syntax.specs.Grammar.{Tree, level, fits, IsFormed, text, nests, Reads}
 use Rattle.rw_syntax.specs.Machine.{State, wants, nest, step, run, from_state, trace, finish, limited, advance, run_within}
 use Rattle.rw_syntax.specs.Spelling.{AreWithin, Spells, CanGoOn}
-use Rattle.rw_syntax.proofs.Choices.{guarded, chained, some_is, le_of, le_to, fits_of}
+use Rattle.rw_syntax.proofs.Choices.{guarded, chained, some_is, fits_of}
 use Rattle.rw_syntax.proofs.After.{run_stands, sound}
 use Rattle.rw_syntax.proofs.Goes.{ArePlain, state_grows}
 use Rattle.rw_syntax.proofs.Reading.{run_append, trace_append, reads, complete}
@@ -25,7 +26,7 @@ split most goal m (t ∷ ts) s e = go (step goal m t) e (λ x k. split most goal
         let g = guarded (leb (nest x) most) (Some x) c.0 c.1 in
         let same : c.0 ≡ x = sym (some_is g.1) in
         let r = h x (ap (λ y. run_within most goal y ts) (sym same) ∙ c.2) in
-        (r.0, (le_of (nest x) most g.0, r.1))
+        (r.0, (leb-true (nest x) most g.0, r.1))
 
 join : (most goal : ℕ) (m : State) (ts : List Token) (s : State) → run goal m ts ≡ Some s → AreWithin most (trace goal m ts) → run_within most goal m ts ≡ Some s
 unfolding run run_within trace
@@ -35,7 +36,7 @@ join most goal m (t ∷ ts) s e w = go (step goal m t) e w (λ x k v. join most 
     go : (o : Option State) → option_and_then (λ s2. run goal s2 ts) o ≡ Some s → AreWithin most (from_state (λ s2. nest s2 ∷ trace goal s2 ts) o) → ((x : State) → run goal x ts ≡ Some s → AreWithin most (trace goal x ts) → run_within most goal x ts ≡ Some s) →
         option_and_then (λ s2. run_within most goal s2 ts) (option_and_then (limited most) o) ≡ Some s
     go None k w h = absurd (cc)
-    go (Some x) k w h = ap (λ b. option_and_then (λ s2. run_within most goal s2 ts) (cond b (Some x) None)) (le_to (nest x) most w.0) ∙ h x k w.1
+    go (Some x) k w h = ap (λ b. option_and_then (λ s2. run_within most goal s2 ts) (cond b (Some x) None)) (le-leb (nest x) most w.0) ∙ h x k w.1
 
 trace_length : (goal : ℕ) (m : State) (ts : List Token) (s : State) → run goal m ts ≡ Some s → length (trace goal m ts) ≡ length ts
 unfolding run trace

@@ -1,6 +1,7 @@
 -- What stands on the stack can go on to a whole value.
 use Rattle.std.proofs.Common.{◌≡◌, ℕ, zero, suc, ◌≤◌, Bool, true, false, cond, List, [], ◌∷◌, ◌++◌, IsTrue, refl, sym, ap, ◌∙◌, subst, arith, append_assoc, append-nil}
 use Rattle.std.specs.Prelude.{leb, eqb}
+use Rattle.std.proofs.lemmas.Bool.{leb-true, leb-false}
 use Rattle.rw_terms.specs.declared.term.Sort.{Sort}
 use Rattle.rw_terms.specs.declared.term.Sort.TheVariants as sorts
 use Rattle.rw_syntax.specs.declared.token.Infix.TheVariants as infixes
@@ -20,7 +21,7 @@ use Rattle.rw_syntax.specs.declared.frame.Partial.TheVariants as partials
 use Rattle.rw_syntax.specs.Grammar.{number, Tree, leaf, prefix, binary, group, index, call, Trees, none, more, count, level, right_of, prefix_level, fits, inner, is_prefix, takes, IsFormed, AreFormed, text, texts, prefix_text, head_token}
 use Rattle.rw_syntax.specs.Machine.{State, wants, partial, worded, has, hole, scope, word_part, whole}
 use Rattle.rw_syntax.proofs.Stands.{HasTerms, may_have, Stands, Has, Begins, partial_text, StateStands}
-use Rattle.rw_syntax.proofs.Choices.{le_of, lt_of, fits_to}
+use Rattle.rw_syntax.proofs.Choices.{fits_to}
 use Rattle.rw_syntax.proofs.Operators.{hole_most}
 use Rattle.rw_syntax.proofs.Sound.{prefix_stands}
 use Rattle.rw_syntax.proofs.After.{group_room, word_has, fit_term}
@@ -62,14 +63,14 @@ fitted env wanted t f h = go (leb 6 (level t)) refl (leb 6 wanted) refl
   where
     go : (a : Bool) → leb 6 (level t) ≡ a → (b : Bool) → leb 6 wanted ≡ b → Fitted env wanted t
     go true a false b =
-        let q = le_of 6 (level t) a in
-        let r = lt_of 6 wanted b in
+        let q = leb-true 6 (level t) a in
+        let r = leb-false 6 wanted b in
         record { tree = binary infixes.Equal t (leaf (number 0)); rest = tokens.Infix infixes.Equal ∷ tokens.Number 0 ∷ []; plain = (refl, (refl, tt)); formed = (fits_to 6 (level t) q (λ x. absurd (omega arith)), refl, f, refl); fit = fits_to wanted 5 (omega arith) (λ x. omega arith); written = refl }
     go true a true b =
-        let q = le_of 6 wanted b in
+        let q = leb-true 6 wanted b in
         record { tree = t; rest = []; plain = tt; formed = f; fit = fits_to wanted (level t) h (λ x. absurd (omega arith)); written = sym (append-nil (text t)) }
     go false a b e =
-        let q = lt_of 6 (level t) a in
+        let q = leb-false 6 (level t) a in
         record { tree = t; rest = []; plain = tt; formed = f; fit = fits_to wanted (level t) h (λ x. q); written = sym (append-nil (text t)) }
 
 -- before ++ (own ++ (x ++ m)) ++ n
@@ -108,7 +109,7 @@ lists_put : (env : List Binder) (n : ℕ) (ready_ones : Trees) (t : Tree) → co
 lists_put env zero ready_ones t e b f k g = zero_more env heads.Put ready_ones t (zero_more env heads.Put (more ready_ones t) (leaf (number 0)) (ready env heads.Put (more (more ready_ones t) (leaf (number 0))) (leaf (number 0)) (ap (λ n. eqb (suc (suc n)) 2) e) ((f, k, g), refl, refl) refl refl))
 lists_put env (suc zero) ready_ones t e b f k g = zero_more env heads.Put ready_ones t (ready env heads.Put (more ready_ones t) (leaf (number 0)) (ap (λ n. eqb (suc n) 2) e) (f, k, g) refl refl)
 lists_put env (suc (suc zero)) ready_ones t e b f k g = ready env heads.Put ready_ones t (ap (λ n. eqb n 2) e) f k g
-lists_put env (suc (suc (suc n))) ready_ones t e b f k g = absurd (let q = le_of (suc (suc (suc n))) 2 b in omega arith)
+lists_put env (suc (suc (suc n))) ready_ones t e b f k g = absurd (let q = leb-true (suc (suc (suc n))) 2 b in omega arith)
 
 lists : (env : List Binder) (h : Head) (ready_ones : Trees) (t : Tree) → IsTrue (may_have h (count ready_ones)) → AreFormed env ready_ones → IsTrue (fits 6 (level t)) → IsFormed env t → Lists env h ready_ones t
 lists env heads.Put ready_ones t e f k g = lists_put env (count ready_ones) ready_ones t refl e f k g

@@ -2,6 +2,7 @@
 use Rattle.std.proofs.Common.{◌≡◌, ℕ, Bool, true, false, cond, arith, List, [], ◌∷◌, Option, Some, None, refl, sym, ap, ◌∙◌, true≢false}
 use Rattle.std.specs.Prelude.{leb, eqb, ◌||◌, option_and_then}
 use Rattle.std.proofs.lemmas.Bool.Decides.{nat_tests}
+use Rattle.std.proofs.lemmas.Bool.{or_parts}
 use Rattle.rw_syntax.specs.declared.token.Token.{Token}
 use Rattle.rw_syntax.specs.declared.token.Token.TheVariants as tokens
 use Rattle.rw_syntax.specs.declared.frame.Part.{Part}
@@ -53,15 +54,11 @@ no_bracket n e = grind (arith, nat_tests)
 a_bracket : (n : ℕ) → eqb n 0 ≡ true → leb 1 n ≡ false
 a_bracket n e = grind (arith, nat_tests)
 
-neither : (a b : Bool) → (a || b) ≡ false → (a ≡ false) × (b ≡ false)
-neither true b e = absurd (true≢false e)
-neither false b e = (refl, e)
-
 ended_empty : (v : Part) (n c : ℕ) (fs : List Frame) (s : State) → is_bracketed fs ≡ false → ended 1 v n c fs ≡ Some s → (u : Part) × (m : ℕ) × (d : ℕ) × (s ≡ has u m d [])
 unfolding ended
 ended_empty v n c [] s b e = (v, n, c, sym (some_is e))
 ended_empty v n c (f ∷ fs) s b e =
-    let k = neither (eqb (frame_level f) 0) (is_bracketed fs) b in
+    let k = or_parts (eqb (frame_level f) 0) (is_bracketed fs) b in
     let on = sym (ap (λ x. cond x (cond (fits (frame_hole f) n) (ended 1 (made f v) (frame_level f) (frame_chain f) fs) None) (Some (has v n c (f ∷ fs)))) (no_bracket (frame_level f) k.0)) ∙ e in
     let g = guarded (fits (frame_hole f) n) (ended 1 (made f v) (frame_level f) (frame_chain f) fs) s on in
     ended_empty (made f v) (frame_level f) (frame_chain f) fs s k.1 g.1

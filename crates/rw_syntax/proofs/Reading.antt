@@ -22,12 +22,12 @@ use Rattle.rw_syntax.specs.declared.frame.Partial.TheVariants as partials
 use Rattle.rw_syntax.specs.Grammar.{Leaf, number, word, initial, place, truth, leaf_level, leaf_token, leaf_part, Tree, leaf, prefix, binary, group, index, call, Trees, none, more, count, level, level_of, left_of, right_of, prefix_level, head_level, shut, fits, inner, is_known, is_binder, is_sort, is_prefix, takes, IsFormed, AreFormed, text, texts, prefix_text, head_token, part, values, read_at, applied, adds, chain, Reads}
 use Rattle.rw_syntax.specs.Machine.{State, wants, partial, worded, has, hole, scope, frame_level, frame_hole, frame_chain, made, ended, begun, leaf_read, begin, extended, closed, indexed, expects, listed, go_on, is_open, word_part, step, run, whole, finish_with, finish}
 use Rattle.rw_syntax.proofs.Stands.{may_have}
-use Rattle.rw_syntax.proofs.Choices.{some_is, le_of, le_to, lt_of, fits_of, shut_formula}
+use Rattle.rw_syntax.proofs.Choices.{some_is, fits_of, shut_formula}
 use Rattle.rw_syntax.proofs.Operators.{facts, hole_most}
 use Rattle.std.proofs.Common.{add-zero}
 use Rattle.rw_syntax.specs.Grammar.{binder_token, sort_text, each, nests, each_nests}
 use Rattle.rw_syntax.specs.Machine.{nest, stack_nest, from_state, trace}
-use Rattle.rw_syntax.proofs.Choices.{lt_to}
+use Rattle.std.proofs.lemmas.Bool.{leb-true, le-leb, lt-leb, leb-false}
 use Rattle.rw_syntax.proofs.After.{values_length}
 use Rattle.rw_syntax.proofs.Operators.{looser, right_bound, left_room, level_least}
 
@@ -99,19 +99,19 @@ pub record Read (goal : ℕ) (fs : List Frame) (t : Tree) : Type 0 where
 ended_none : (goal bound : ℕ) (v : Part) (n c : ℕ) (fs : List Frame) (wanted : ℕ) → hole goal fs ≤ wanted → ((f : Frame) → frame_hole f ≤ wanted → frame_level f < bound) → ended bound v n c fs ≡ Some (has v n c fs)
 unfolding ended
 ended_none goal bound v n c [] wanted h k = refl
-ended_none goal bound v n c (f ∷ fs) wanted h k = ap (λ b. cond b (cond (fits (frame_hole f) n) (ended bound (made f v) (frame_level f) (frame_chain f) fs) None) (Some (has v n c (f ∷ fs)))) (lt_to bound (frame_level f) (k f h))
+ended_none goal bound v n c (f ∷ fs) wanted h k = ap (λ b. cond b (cond (fits (frame_hole f) n) (ended bound (made f v) (frame_level f) (frame_chain f) fs) None) (Some (has v n c (f ∷ fs)))) (lt-leb bound (frame_level f) (k f h))
 
 -- one frame ends
 ended_one : (bound : ℕ) (v : Part) (n c : ℕ) (f : Frame) (fs : List Frame) → bound ≤ frame_level f → IsTrue (fits (frame_hole f) n) → ended bound v n c (f ∷ fs) ≡ ended bound (made f v) (frame_level f) (frame_chain f) fs
 unfolding ended
 ended_one bound v n c f fs h k =
-    ap (λ b. cond b (cond (fits (frame_hole f) n) (ended bound (made f v) (frame_level f) (frame_chain f) fs) None) (Some (has v n c (f ∷ fs)))) (le_to bound (frame_level f) h)
+    ap (λ b. cond b (cond (fits (frame_hole f) n) (ended bound (made f v) (frame_level f) (frame_chain f) fs) None) (Some (has v n c (f ∷ fs)))) (le-leb bound (frame_level f) h)
     ∙ ap (λ b. cond b (ended bound (made f v) (frame_level f) (frame_chain f) fs) None) k
 
 -- a bracket stays
 bracket_stays : (bound : ℕ) (v : Part) (n c : ℕ) (f : Frame) (fs : List Frame) → 0 < bound → frame_level f ≡ 0 → ended bound v n c (f ∷ fs) ≡ Some (has v n c (f ∷ fs))
 unfolding ended
-bracket_stays bound v n c f fs h z = ap (λ b. cond b (cond (fits (frame_hole f) n) (ended bound (made f v) (frame_level f) (frame_chain f) fs) None) (Some (has v n c (f ∷ fs)))) (lt_to bound (frame_level f) (omega arith))
+bracket_stays bound v n c f fs h z = ap (λ b. cond b (cond (fits (frame_hole f) n) (ended bound (made f v) (frame_level f) (frame_chain f) fs) None) (Some (has v n c (f ∷ fs)))) (lt-leb bound (frame_level f) (omega arith))
 
 nothing_ends : (bound : ℕ) (v : Part) (n c : ℕ) → ended bound v n c [] ≡ Some (has v n c [])
 unfolding ended
@@ -130,7 +130,7 @@ frame_most (frames.Call h us) = omega arith
 primary_stays : (v : Part) (n c : ℕ) (fs : List Frame) → ended 9 v n c fs ≡ Some (has v n c fs)
 unfolding ended
 primary_stays v n c [] = refl
-primary_stays v n c (f ∷ fs) = ap (λ b. cond b (cond (fits (frame_hole f) n) (ended 9 (made f v) (frame_level f) (frame_chain f) fs) None) (Some (has v n c (f ∷ fs)))) (lt_to 9 (frame_level f) (frame_most f))
+primary_stays v n c (f ∷ fs) = ap (λ b. cond b (cond (fits (frame_hole f) n) (ended 9 (made f v) (frame_level f) (frame_chain f) fs) None) (Some (has v n c (f ∷ fs)))) (lt-leb 9 (frame_level f) (frame_most f))
 
 -- an operand that is read at once
 at_once : (goal : ℕ) (fs : List Frame) (t : Tree) → Goes goal (wants fs) (text t) (has (part (scope fs) t) (level t) (chain t) fs) (nests (stack_nest fs) t) → Read goal fs t
@@ -143,7 +143,7 @@ at_once goal fs t g = record {
 leaf_steps : (goal : ℕ) (fs : List Frame) (l : Leaf) → IsTrue (is_known (scope fs) l) → hole goal fs ≤ leaf_level l → leaf_read (hole goal fs) (scope fs) l fs ≡ Some (has (leaf_part (scope fs) l) (leaf_level l) 0 fs)
 leaf_steps goal fs l k h =
     let x = has (leaf_part (scope fs) l) (leaf_level l) 0 fs in
-    ap (λ b. cond b (begun (hole goal fs) (leaf_level l) x) None) k ∙ ap (λ b. cond b (Some x) None) (le_to (hole goal fs) (leaf_level l) h)
+    ap (λ b. cond b (begun (hole goal fs) (leaf_level l) x) None) k ∙ ap (λ b. cond b (Some x) None) (le-leb (hole goal fs) (leaf_level l) h)
 
 leaf_goes : (goal : ℕ) (fs : List Frame) (l : Leaf) → begin (hole goal fs) (scope fs) fs (leaf_token l) ≡ leaf_read (hole goal fs) (scope fs) l fs → IsTrue (is_known (scope fs) l) → hole goal fs ≤ leaf_level l → Read goal fs (leaf l)
 leaf_goes goal fs l st k h =
@@ -170,7 +170,7 @@ read_leaf goal fs (word w) k h = record {
 }
 
 begun_is : (outer n : ℕ) (x : State) → outer ≤ n → begun outer n x ≡ Some x
-begun_is outer n x h = ap (λ b. cond b (Some x) None) (le_to outer n h)
+begun_is outer n x h = ap (λ b. cond b (Some x) None) (le-leb outer n h)
 
 cond_true : (a b : Bool) → cond a b false ≡ true → (a ≡ true) × (b ≡ true)
 cond_true true b e = (refl, e)
@@ -284,7 +284,7 @@ head_goes goal fs heads.Put r = goes_step {goal = goal} {m = wants fs} {t = toke
 head_goes goal fs (heads.Named w) r = goes_step {goal = goal} {m = wants fs} {t = tokens.Word w} {s = worded w fs} refl (goes_one {goal = goal} {m = worded w fs} {t = tokens.Open} (begun_is (hole goal fs) (head_level (heads.Named w)) (wants (frames.Call (heads.Named w) [] ∷ fs)) r))
 
 may_be_less : (h : Head) (n : ℕ) → may_have h (suc n) ≡ true → (expects h n ≡ true) × (may_have h n ≡ true)
-may_be_less heads.Put n e = let q : suc n ≤ 2 = le_of (suc n) 2 e in (grind (arith, nat_tests), le_to n 2 (omega arith))
+may_be_less heads.Put n e = let q : suc n ≤ 2 = leb-true (suc n) 2 e in (grind (arith, nat_tests), le-leb n 2 (omega arith))
 may_be_less (heads.Named w) n e = (refl, refl)
 
 takes_may : (h : Head) (n : ℕ) → takes h n ≡ true → may_have h n ≡ true
@@ -302,8 +302,8 @@ group_hole outer n l h = go (leb 6 outer) refl (leb 6 n) refl
   where
     go : (b : Bool) → leb 6 outer ≡ b → (c : Bool) → leb 6 n ≡ c → cond b 6 1 ≤ n
     go false e c k = l
-    go true e true k = le_of 6 n k
-    go true e false k = let q = le_of 6 outer e in let w = lt_of 6 n k in let z = shut_formula n w in absurd (omega arith)
+    go true e true k = leb-true 6 n k
+    go true e false k = let q = leb-true 6 outer e in let w = leb-false 6 n k in let z = shut_formula n w in absurd (omega arith)
 
 mutual
   pub reads : (t : Tree) (goal : ℕ) (fs : List Frame) → goal ≤ 9 → IsFormed (scope fs) t → hole goal fs ≤ level t → Read goal fs t

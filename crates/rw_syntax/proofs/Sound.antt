@@ -1,6 +1,7 @@
 -- What the machine reads stands on its stack.
 use Rattle.std.proofs.Common.{◌≡◌, ℕ, ◌≤◌, ◌<◌, Bool, true, false, cond, List, [], ◌∷◌, ◌++◌, Some, None, IsTrue, refl, sym, ap, ◌∙◌, subst, arith, append_assoc}
 use Rattle.std.specs.Prelude.{leb}
+use Rattle.std.proofs.lemmas.Bool.{leb-true}
 use Rattle.rw_terms.specs.declared.term.Sort.{Sort}
 use Rattle.rw_terms.specs.declared.term.Sort.TheVariants as sorts
 use Rattle.rw_syntax.specs.declared.token.Infix.TheVariants as infixes
@@ -20,7 +21,7 @@ use Rattle.rw_syntax.specs.declared.frame.Partial.TheVariants as partials
 use Rattle.rw_syntax.specs.Grammar.{Leaf, number, word, initial, place, truth, leaf_level, leaf_token, leaf_part, Tree, leaf, prefix, binary, group, index, call, Trees, none, more, count, level, level_of, left_of, right_of, prefix_level, head_level, shut, fits, inner, is_known, is_length, is_binder, is_sort, is_prefix, takes, IsFormed, AreFormed, text, texts, prefix_text, head_token, part, values, prefixed, joined, read_at, applied, as_term, adds, chain, Reads}
 use Rattle.rw_syntax.specs.Machine.{State, wants, partial, has, hole, scope, frame_level, frame_hole, frame_chain, made, ended, begun, leaf_read, begin, named_by, naming, coloned, sorting, measuring, dotted, putting, partial_step}
 use Rattle.rw_syntax.proofs.Stands.{HasLeft, HasBase, HasTerms, may_have, Puts, Stands, Has, Begins, Words, partial_text, partial_level, StateStands}
-use Rattle.rw_syntax.proofs.Choices.{guarded, some_is, le_of}
+use Rattle.rw_syntax.proofs.Choices.{guarded, some_is}
 use Rattle.rw_syntax.proofs.Operators.{hole_most}
 
 pub spliced : {A : Type 0} (ts b before own x : List A) → ts ≡ b ++ x → b ≡ before ++ own → ts ≡ before ++ (own ++ x)
@@ -69,7 +70,7 @@ ends : (goal bound : ℕ) (v : Part) (n c : ℕ) (f : Frame) (fs : List Frame) (
     (b : Bool) → leb bound (frame_level f) ≡ b → cond b (cond (fits (frame_hole f) n) (ended bound (made f v) (frame_level f) (frame_chain f) fs) None) (Some (has v n c (f ∷ fs))) ≡ Some s → StateStands goal s ts
 ends goal bound v n c f fs ts s h join next true t e =
     let g = guarded (fits (frame_hole f) n) (ended bound (made f v) (frame_level f) (frame_chain f) fs) s e in
-    next (join (le_of bound (frame_level f) t) g.0 h) g.1
+    next (join (leb-true bound (frame_level f) t) g.0 h) g.1
 ends goal bound v n c f fs ts s h join next false t e = subst (λ x. StateStands goal x ts) (some_is e) h
 
 above : (bound n : ℕ) → 0 < bound → bound ≤ n → 0 < n
@@ -83,7 +84,7 @@ ended_stands goal bound v n c (f ∷ fs) ts s p h e = ends goal bound v n c f fs
 pub begun_stands : (goal outer n : ℕ) (x : State) (ts : List Token) (s : State) → (outer ≤ n → StateStands goal x ts) → begun outer n x ≡ Some s → StateStands goal s ts
 begun_stands goal outer n x ts s p e =
     let g = guarded (leb outer n) (Some x) s e in
-    subst (λ y. StateStands goal y ts) (some_is g.1) (p (le_of outer n g.0))
+    subst (λ y. StateStands goal y ts) (some_is g.1) (p (leb-true outer n g.0))
 
 pub leaf_has : (goal : ℕ) (l : Leaf) (fs : List Frame) (ts : List Token) → Stands goal fs ts → IsTrue (is_known (scope fs) l) → hole goal fs ≤ leaf_level l → chain (leaf l) ≡ 0 → Has goal (leaf_part (scope fs) l) (leaf_level l) 0 fs (ts ++ leaf_token l ∷ [])
 leaf_has goal l fs ts h k r z = record { before = ts; stands = h; tree = leaf l; formed = k; value = refl; height = refl; depth = z; room = r; written = refl }

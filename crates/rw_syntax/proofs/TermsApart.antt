@@ -1,6 +1,7 @@
 -- A tree of level 6 or more stands for a term, and each other one for a formula.
 use Rattle.std.proofs.Common.{◌≡◌, ℕ, Bool, true, false, cond, List, [], ◌∷◌, Option, Some, None, refl, sym, ap, ◌∙◌, arith, true≢false}
 use Rattle.std.specs.Prelude.{leb}
+use Rattle.std.proofs.lemmas.Bool.{leb-true, le-leb, lt-leb, leb-false}
 use Rattle.rw_terms.specs.declared.term.Term.{Term}
 use Rattle.rw_terms.specs.declared.term.Formula.{Formula}
 use Rattle.rw_syntax.specs.declared.token.Infix.{Infix}
@@ -16,7 +17,7 @@ use Rattle.rw_syntax.specs.declared.frame.Head.{Head}
 use Rattle.rw_syntax.specs.declared.frame.Head.TheVariants as heads
 use Rattle.rw_syntax.specs.Grammar.{Leaf, number, word, initial, place, truth, Tree, leaf, prefix, binary, group, index, call, level, level_of, prefix_level, head_level, leaf_level, shut, is_upper, inner, bound_or, leaf_part, put_of, part, prefixed, joined, applied, values}
 use Rattle.rw_syntax.specs.Spelling.{Spells}
-use Rattle.rw_syntax.proofs.Choices.{fits_of, le_to, lt_to, le_of, lt_of, shut_term, shut_formula}
+use Rattle.rw_syntax.proofs.Choices.{fits_of, shut_term, shut_formula}
 
 abbrev is_term : Part → Bool
 is_term (parts.Term t) = true
@@ -74,8 +75,8 @@ shut_kind : (n : ℕ) → leb 6 n ≡ leb 6 (shut n)
 shut_kind n = go (leb 6 n) refl
   where
     go : (b : Bool) → leb 6 n ≡ b → leb 6 n ≡ leb 6 (shut n)
-    go true e = e ∙ ap (leb 6) (sym (shut_term n (le_of 6 n e)))
-    go false e = e ∙ ap (leb 6) (sym (shut_formula n (lt_of 6 n e)))
+    go true e = e ∙ ap (leb 6) (sym (shut_term n (leb-true 6 n e)))
+    go false e = e ∙ ap (leb 6) (sym (shut_formula n (leb-false 6 n e)))
 
 kinds : (env : List Binder) (t : Tree) → is_term (part env t) ≡ leb 6 (level t)
 kinds env (leaf l) = leaf_kind env l
@@ -88,11 +89,11 @@ kinds env (call h ts t) = head_kind h (values env ts) (part env t)
 -- what is read as a term is no formula
 pub terms_only : (most : ℕ) (ts : List Token) (f : Formula) → Spells most 6 ts (parts.Formula f) → ⊥
 terms_only most ts f s =
-    let e : leb 6 (level s.tree) ≡ true = le_to 6 (level s.tree) (fits_of 6 (level s.tree) s.fit).0 in
+    let e : leb 6 (level s.tree) ≡ true = le-leb 6 (level s.tree) (fits_of 6 (level s.tree) s.fit).0 in
     true≢false (sym e ∙ sym (kinds [] s.tree) ∙ ap is_term s.value)
 
 -- what is read as a formula is no term
 pub formulas_only : (most : ℕ) (ts : List Token) (t : Term) → Spells most 1 ts (parts.Term t) → ⊥
 formulas_only most ts t s =
-    let e : leb 6 (level s.tree) ≡ false = lt_to 6 (level s.tree) ((fits_of 1 (level s.tree) s.fit).1 (omega arith)) in
+    let e : leb 6 (level s.tree) ≡ false = lt-leb 6 (level s.tree) ((fits_of 1 (level s.tree) s.fit).1 (omega arith)) in
     true≢false (sym (sym (kinds [] s.tree) ∙ ap is_term s.value) ∙ e)

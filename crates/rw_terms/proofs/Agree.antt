@@ -1,5 +1,6 @@
 -- Values and truth depend on the names that a term or a formula mentions, and on no other.
 use Rattle.std.proofs.Common.{◌≡◌, ◌↔◌, ℕ, Bool, true, false, ◌||◌, Some, List, [], ◌∷◌, map, refl, sym, ◌∙◌, ap, subst, true≢false, bytes_eq, IsTrue, ◌<ℤ◌, ◌≤ℤ◌, if◌then◌else◌, reverse}
+use Rattle.std.proofs.lemmas.Bool.{or_left, or_right}
 use Rattle.std.proofs.lemmas.Slice.Eq.{bytes_eq-Decides}
 use Rattle.rw_terms.specs.declared.term.Sort.{Sort}
 use Rattle.rw_terms.specs.declared.term.Term.{Term}
@@ -16,14 +17,6 @@ use Rattle.rw_terms.specs.Value.{value_step, value_by}
 use Rattle.rw_terms.specs.Truth.{Predicates, holds_by, predicates_of}
 use Rattle.rw_terms.specs.Agreement.{ValuesAgree, TruthAgrees, TruthIgnores}
 use Rattle.rw_terms.proofs.Truths.{to_layer, from_layer, layer_truth}
-
-left_holds : (a b : Bool) → a ≡ true → (a || b) ≡ true
-left_holds true b e = refl
-left_holds false b e = absurd (true≢false (sym e))
-
-right_holds : (a b : Bool) → b ≡ true → (a || b) ≡ true
-right_holds true b e = refl
-right_holds false b e = e
 
 pub not_iff : {A B : Type 0} → A ↔ B → (¬ A) ↔ (¬ B)
 not_iff e = (λ n b. n (e.1 b), λ n a. n (e.0 a))
@@ -49,10 +42,10 @@ module _ (predicates : Predicates) (var init const var' init' const' : List ℕ 
   Agree test = (x : List ℕ) → test x ≡ true → (var x ≡ var' x) × (init x ≡ init' x) × (const x ≡ const' x)
 
   left : (f g : List ℕ → Bool) → Agree (λ x. f x || g x) → Agree f
-  left f g e x m = e x (left_holds (f x) (g x) m)
+  left f g e x m = e x (or_left (f x) (g x) m)
 
   right : (f g : List ℕ → Bool) → Agree (λ x. f x || g x) → Agree g
-  right f g e x m = e x (right_holds (f x) (g x) m)
+  right f g e x m = e x (or_right (f x) (g x) m)
 
   itself : (x : List ℕ) → Agree (λ z. bytes_eq z x) → (var x ≡ var' x) × (init x ≡ init' x) × (const x ≡ const' x)
   itself x e = e x ((bytes_eq-Decides x x).1 refl)

@@ -1,5 +1,6 @@
 -- A report on a formula has no fault exactly where the formula keeps the rules.
 use Rattle.std.proofs.Common.{◌≡◌, ℕ, ◌+◌, Bool, true, false, ◌&&◌, List, [], ◌∷◌, map, find, length, Option, Some, None, refl, sym, ap, ◌∙◌, subst, true≢false}
+use Rattle.std.proofs.lemmas.Bool.{and_from, and_parts}
 use Rattle.std.specs.Prelude.{is_some, nat_eq}
 use Rattle.std.proofs.Math.Dec.{eqb-suc-suc, eqb-suc-zero, eqb-zero-suc}
 use Rattle.rw_terms.specs.declared.error.TermError.{TermError}
@@ -14,7 +15,7 @@ use Rattle.rw_terms.specs.declared.term.Formula.TheFolds.{map-Formula, ind-Formu
 use Rattle.rw_terms.specs.Sorts.{SortReport, sort_report, first_of, unless, binary}
 use Rattle.rw_terms.specs.Formed.{FormulaReport, formula_report_step, formula_report, may_be, may_equal, is_sort, is_head, pairs_fit, takes, first_fault, equation, application}
 use Rattle.rw_terms.specs.Rules.{of_ints, is_of, are_of, may_equal_of, applies, sort_in, keeps_step, keeps_rules}
-use Rattle.rw_terms.proofs.Reported.{Tells, first_none, second_none, none_none, rule_kept, keeps_rule, left_true, right_true, both_true, tells_binary, told}
+use Rattle.rw_terms.proofs.Reported.{Tells, first_none, second_none, none_none, rule_kept, keeps_rule, tells_binary, told}
 
 -- no fault, at any number, exactly where the test passes
 pub record Agrees (fault : ℕ → Option TermError) (b : Bool) : Type 0 where
@@ -99,8 +100,8 @@ module _ (scope : List Entry) (binders : List Sort) where
   none_at_fault (a ∷ args) [] place e = absurd (true≢false (sym e))
   none_at_fault (a ∷ args) (s ∷ ss) place e =
       let t = told scope binders a in
-      let g = there_is s (sort a) (left_true _ _ e) in
-      none_none _ _ (t.kept place g.0 g.1) (none_at_fault args ss (place + (report a).parts) (right_true (is_of s (sort a)) _ e))
+      let g = there_is s (sort a) (and_parts _ _ e).0 in
+      none_none _ _ (t.kept place g.0 g.1) (none_at_fault args ss (place + (report a).parts) (and_parts (is_of s (sort a)) _ e).1)
 
   agrees_application : (head : Option Head) (p : List ℕ) (args : List Term) → Agrees (application head p (map report args)) (applies head (map sort args))
   agrees_application None p args = record { given = λ place e. absurd (cc); kept = λ place e. absurd (true≢false (sym e)) }
@@ -113,14 +114,14 @@ module _ (scope : List Entry) (binders : List Sort) where
 
 agrees_both : (f g : ℕ → Option TermError) (a b : Bool) → Agrees f a → Agrees g b → (next : ℕ → ℕ) → Agrees (λ place. first_of (f (place + 1)) (g (next place))) (a && b)
 agrees_both f g a b t u next = record {
-  given = λ place e. both_true a b (t.given (place + 1) (first_none _ _ e)) (u.given (next place) (second_none _ _ e));
-  kept = λ place e. none_none _ _ (t.kept (place + 1) (left_true a b e)) (u.kept (next place) (right_true a b e));
+  given = λ place e. and_from a b (t.given (place + 1) (first_none _ _ e)) (u.given (next place) (second_none _ _ e));
+  kept = λ place e. none_none _ _ (t.kept (place + 1) (and_parts a b e).0) (u.kept (next place) (and_parts a b e).1);
 }
 
 agrees_bound : (c : Bool) (f : ℕ → Option TermError) (b : Bool) → Agrees f b → Agrees (λ place. first_of (unless c place) (f (place + 1))) (c && b)
 agrees_bound c f b t = record {
-  given = λ place e. both_true c b (rule_kept c place (first_none _ _ e)) (t.given (place + 1) (second_none _ _ e));
-  kept = λ place e. none_none _ _ (keeps_rule c place (left_true c b e)) (t.kept (place + 1) (right_true c b e));
+  given = λ place e. and_from c b (rule_kept c place (first_none _ _ e)) (t.given (place + 1) (second_none _ _ e));
+  kept = λ place e. none_none _ _ (keeps_rule c place (and_parts c b e).0) (t.kept (place + 1) (and_parts c b e).1);
 }
 
 module _ (scope : List Entry) (heads : List Head) where

@@ -1,5 +1,6 @@
 -- A report on a term has no fault exactly where the rules give the term a sort, and then it is that sort.
 use Rattle.std.proofs.Common.{◌≡◌, ℕ, ◌+◌, Bool, true, false, ◌&&◌, List, Option, Some, None, refl, sym, ap, ◌∙◌, subst, true≢false}
+use Rattle.std.proofs.lemmas.Bool.{and_from, and_parts}
 use Rattle.rw_terms.specs.declared.error.TermError.{TermError}
 use Rattle.rw_terms.specs.declared.scope.Entry.{Entry}
 use Rattle.rw_terms.specs.declared.term.Sort.{Sort}
@@ -34,17 +35,6 @@ rule_kept false place h = absurd (cc)
 
 pub keeps_rule : (b : Bool) (place : ℕ) → b ≡ true → unless b place ≡ None
 keeps_rule b place e = ap (λ x. unless x place) e
-
-pub left_true : (a b : Bool) → (a && b) ≡ true → a ≡ true
-left_true true b e = refl
-left_true false b e = e
-
-pub right_true : (a b : Bool) → (a && b) ≡ true → b ≡ true
-right_true true b e = e
-right_true false b e = absurd (true≢false (sym e))
-
-pub both_true : (a b : Bool) → a ≡ true → b ≡ true → (a && b) ≡ true
-both_true a b p q = ap (λ x. x && b) p ∙ q
 
 int_only : (s : Sort) → may_be_int (Some s) ≡ true → s ≡ Int
 int_only Int e = refl
@@ -111,12 +101,12 @@ tells_binary l m o p t u = record {
   given = λ place e.
       let rule = rule_kept _ place (first_none _ _ e) in
       let rest = second_none _ _ e in
-      let i = int_there l o t (place + 1) (first_none _ _ rest) (left_true _ _ rule) in
-      let j = int_there m p u (place + 1 + l.parts) (second_none _ _ rest) (right_true (may_be_int l.sort) _ rule) in
+      let i = int_there l o t (place + 1) (first_none _ _ rest) (and_parts _ _ rule).0 in
+      let j = int_there m p u (place + 1 + l.parts) (second_none _ _ rest) (and_parts (may_be_int l.sort) _ rule).1 in
       (Int, ap (λ x. of_ints x p) i ∙ ap of_int j);
   same = λ s e. ap Some (sym ((of_ints_is o p s e).2));
   kept = λ place s e. let i = of_ints_is o p s e in
-      none_none _ _ (keeps_rule _ place (both_true _ _ (may_be_one l o t i.0) (may_be_one m p u i.1)))
+      none_none _ _ (keeps_rule _ place (and_from _ _ (may_be_one l o t i.0) (may_be_one m p u i.1)))
       (none_none _ _ (t.kept (place + 1) Int i.0) (u.kept (place + 1 + l.parts) Int i.1));
 }
 
@@ -130,13 +120,13 @@ tells_read l m o p t u = record {
       let rule = rule_kept _ place (first_none _ _ e) in
       let rest = second_none _ _ e in
       let g = t.given (place + 1) (first_none _ _ rest) in
-      let array = ap may_be_array (sym (t.same g.0 g.1)) ∙ left_true _ _ rule in
-      let j = int_there m p u (place + 1 + l.parts) (second_none _ _ rest) (right_true (may_be_array l.sort) _ rule) in
+      let array = ap may_be_array (sym (t.same g.0 g.1)) ∙ (and_parts _ _ rule).0 in
+      let j = int_there m p u (place + 1 + l.parts) (second_none _ _ rest) (and_parts (may_be_array l.sort) _ rule).1 in
       (Int, ap (λ x. of_read x p) g.1 ∙ read_given g.0 p array j);
   same = λ s e. ap Some (sym ((of_read_is o p s e).3));
   kept = λ place s e. let i = of_read_is o p s e in
       let array = ap may_be_array (t.same i.1.0 i.1.1 ∙ sym i.1.1) ∙ i.0 in
-      none_none _ _ (keeps_rule _ place (both_true _ _ array (may_be_one m p u i.2)))
+      none_none _ _ (keeps_rule _ place (and_from _ _ array (may_be_one m p u i.2)))
       (none_none _ _ (t.kept (place + 1) i.1.0 i.1.1) (u.kept (place + 1 + l.parts) Int i.2));
 }
 
@@ -151,15 +141,15 @@ tells_put l m k o p q t u v = record {
       let rest = second_none _ _ e in
       let last = second_none _ _ rest in
       let g = t.given (place + 1) (first_none _ _ rest) in
-      let front = left_true (may_be_array l.sort && may_be_int m.sort) _ rule in
-      let array = ap may_be_array (sym (t.same g.0 g.1)) ∙ left_true _ _ front in
-      let i = int_there m p u (place + 1 + l.parts) (first_none _ _ last) (right_true (may_be_array l.sort) _ front) in
-      let j = int_there k q v (place + 1 + l.parts + m.parts) (second_none _ _ last) (right_true (may_be_array l.sort && may_be_int m.sort) _ rule) in
+      let front = (and_parts (may_be_array l.sort && may_be_int m.sort) _ rule).0 in
+      let array = ap may_be_array (sym (t.same g.0 g.1)) ∙ (and_parts _ _ front).0 in
+      let i = int_there m p u (place + 1 + l.parts) (first_none _ _ last) (and_parts (may_be_array l.sort) _ front).1 in
+      let j = int_there k q v (place + 1 + l.parts + m.parts) (second_none _ _ last) (and_parts (may_be_array l.sort && may_be_int m.sort) _ rule).1 in
       (g.0, ap (λ x. of_put x p q) g.1 ∙ put_given g.0 p q array i j);
   same = λ s e. t.same s (of_put_is o p q s e).1;
   kept = λ place s e. let i = of_put_is o p q s e in
       let array = ap may_be_array (t.same s i.1 ∙ sym i.1) ∙ i.0 in
-      none_none _ _ (keeps_rule _ place (both_true _ _ (both_true _ _ array (may_be_one m p u i.2)) (may_be_one k q v i.3)))
+      none_none _ _ (keeps_rule _ place (and_from _ _ (and_from _ _ array (may_be_one m p u i.2)) (may_be_one k q v i.3)))
       (none_none _ _ (t.kept (place + 1) s i.1) (none_none _ _ (u.kept (place + 1 + l.parts) Int i.2) (v.kept (place + 1 + l.parts + m.parts) Int i.3)));
 }
 

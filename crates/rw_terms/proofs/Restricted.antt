@@ -1,5 +1,6 @@
 -- A sequent that is valid over the names of its formulas says the same of the states of their scope.
-use Rattle.std.proofs.Common.{◌≡◌, ℕ, Bool, true, false, ◌||◌, List, [], ◌∷◌, find, Option, Some, None, refl, sym, ap, subst, true≢false}
+use Rattle.std.proofs.Common.{◌≡◌, ℕ, Bool, true, false, ◌||◌, List, [], ◌∷◌, find, Option, Some, None, sym, ap, subst}
+use Rattle.std.proofs.lemmas.Bool.{or_left, or_right}
 use Rattle.std.specs.Option.{option_map}
 use Rattle.rw_terms.specs.declared.term.Formula.{Formula}
 use Rattle.rw_terms.specs.declared.scope.Entry.{Entry}
@@ -12,20 +13,12 @@ use Rattle.rw_terms.specs.InScope.{named_by, only_if, ValidFollows}
 use Rattle.rw_terms.proofs.Agree.{truth_agrees}
 use Rattle.rw_terms.proofs.Gathers.{names_are_exact}
 
-left_holds : (a b : Bool) → a ≡ true → (a || b) ≡ true
-left_holds true b e = refl
-left_holds false b e = absurd (true≢false (sym e))
-
-right_holds : (a b : Bool) → b ≡ true → (a || b) ≡ true
-right_holds true b e = refl
-right_holds false b e = e
-
 each_by : (P Q : Formula → Type 0) (test : List ℕ → Bool) → ((f : Formula) → ((x : List ℕ) → formula_mentions x f ≡ true → test x ≡ true) → P f → Q f) →
     (fs : List Formula) → ((x : List ℕ) → formulas_mention x fs ≡ true → test x ≡ true) → Each P fs → Each Q fs
 each_by P Q test k [] m h = tt
 each_by P Q test k (f ∷ fs) m h = (
-  k f (λ x e. m x (left_holds (formula_mentions x f) (formulas_mention x fs) e)) h.0,
-  each_by P Q test k fs (λ x e. m x (right_holds (formula_mentions x f) (formulas_mention x fs) e)) h.1,
+  k f (λ x e. m x (or_left (formula_mentions x f) (formulas_mention x fs) e)) h.0,
+  each_by P Q test k fs (λ x e. m x (or_right (formula_mentions x f) (formulas_mention x fs) e)) h.1,
 )
 
 module _ (test : List ℕ → Bool) where
@@ -52,5 +45,5 @@ valid_follows library scope left right valid s0 s f0 f on_left on_right =
     let exact = (names_are_exact scope left right).1 in
     let fits = λ (t : State) (ft : Fits scope t) (x : List ℕ). subst (λ o. FitsNamed o (restricted test t x)) (sym (exact x)) (fits_only test (test x) (find (has_name x) scope) (t x) (ft x)) in
     valid (restricted test s0) (restricted test s) (fits s0 f0) (fits s f)
-    (each_by _ _ test (λ g m h. (truth_agrees library g s0 s (restricted test s0) (restricted test s) (agree test g m s0 s) []).0 h) left (λ x e. left_holds (formulas_mention x left) _ e) on_left)
-    (each_by _ _ test (λ g m n h. n ((truth_agrees library g s0 s (restricted test s0) (restricted test s) (agree test g m s0 s) []).1 h)) right (λ x e. right_holds (formulas_mention x left) _ e) on_right)
+    (each_by _ _ test (λ g m h. (truth_agrees library g s0 s (restricted test s0) (restricted test s) (agree test g m s0 s) []).0 h) left (λ x e. or_left (formulas_mention x left) _ e) on_left)
+    (each_by _ _ test (λ g m n h. n ((truth_agrees library g s0 s (restricted test s0) (restricted test s) (agree test g m s0 s) []).1 h)) right (λ x e. or_right (formulas_mention x left) _ e) on_right)

@@ -1,5 +1,6 @@
 -- Which lists are texts.
-use Rattle.std.proofs.Common.{◌≡◌, ℕ, suc, ◌<◌, Bool, true, false, List, [], ◌∷◌, IsTrue, arith, refl, sym, ap, ◌∙◌, true≢false}
+use Rattle.std.proofs.Common.{◌≡◌, ℕ, suc, ◌<◌, true, List, [], ◌∷◌, IsTrue, arith, refl, ap, ◌∙◌}
+use Rattle.std.proofs.lemmas.Bool.{and_from, and_parts}
 use Rattle.std.specs.Prelude.{◌&&◌}
 use Rattle.std.specs.List.{list_all}
 use Rattle.std.specs.Str.{IsAscii}
@@ -15,17 +16,6 @@ ascii_passes (b ∷ bs) h =
     let rest = ascii_passes bs (λ i. h (suc i)) in
     ap (λ p. p && is_ascii bs) first ∙ rest
 
-left_true : (a b : Bool) → (a && b) ≡ true → a ≡ true
-left_true true b e = refl
-left_true false b e = e
-
-right_true : (a b : Bool) → (a && b) ≡ true → b ≡ true
-right_true true b e = e
-right_true false b e = absurd (true≢false (sym e))
-
-both : (a b : Bool) → a ≡ true → b ≡ true → (a && b) ≡ true
-both a b e f = ap (λ c. c && b) e ∙ f
-
 letter_is_ascii : (b : ℕ) → is_letter b ≡ true → is_ascii_byte b ≡ true
 letter_is_ascii b h = grind (arith, nat_tests, h)
 
@@ -36,12 +26,12 @@ goes_on_is_ascii b h = grind (arith, nat_tests, h)
 -- so is all that goes on
 all_ascii : (bs : List ℕ) → list_all goes_on bs ≡ true → is_ascii bs ≡ true
 all_ascii [] h = refl
-all_ascii (b ∷ bs) h = both _ _ (goes_on_is_ascii b (left_true _ _ h)) (all_ascii bs (right_true _ _ h))
+all_ascii (b ∷ bs) h = and_from _ _ (goes_on_is_ascii b (and_parts _ _ h).0) (all_ascii bs (and_parts _ _ h).1)
 
 -- and a name
 pub name_is_ascii : (bs : List ℕ) → IsTrue (is_name bs) → IsTrue (is_ascii bs)
 unfolding is_name
 name_is_ascii [] h = refl
 name_is_ascii (b ∷ bs) h =
-    let word = left_true _ _ (left_true _ _ (left_true _ _ h)) in
-    both _ _ (letter_is_ascii b (left_true _ _ word)) (all_ascii bs (right_true _ _ word))
+    let word = (and_parts _ _ (and_parts _ _ (and_parts _ _ h).0).0).0 in
+    and_from _ _ (letter_is_ascii b (and_parts _ _ word).0) (all_ascii bs (and_parts _ _ word).1)

@@ -18,28 +18,47 @@ impl Term {
             Term::Init(x) => Ok(Term::Init(x.copy())),
             Term::Const(x) => Ok(Term::Const(x.copy())),
             Term::Bound(k) => Ok(Term::Bound(*k)),
-            Term::Neg(a) => Ok(Term::Neg(again(alloc, a)?)),
-            Term::Add(a, b) => Ok(Term::Add(again(alloc, a)?, again(alloc, b)?)),
-            Term::Sub(a, b) => Ok(Term::Sub(again(alloc, a)?, again(alloc, b)?)),
-            Term::Mul(a, b) => Ok(Term::Mul(again(alloc, a)?, again(alloc, b)?)),
-            Term::Div(a, b) => Ok(Term::Div(again(alloc, a)?, again(alloc, b)?)),
-            Term::Mod(a, b) => Ok(Term::Mod(again(alloc, a)?, again(alloc, b)?)),
-            Term::Read(a, i) => Ok(Term::Read(again(alloc, a)?, again(alloc, i)?)),
+            Term::Neg(a) => Ok(Term::Neg(boxed_term(alloc, a.get())?)),
+            Term::Add(a, b) => Ok(Term::Add(
+                boxed_term(alloc, a.get())?,
+                boxed_term(alloc, b.get())?,
+            )),
+            Term::Sub(a, b) => Ok(Term::Sub(
+                boxed_term(alloc, a.get())?,
+                boxed_term(alloc, b.get())?,
+            )),
+            Term::Mul(a, b) => Ok(Term::Mul(
+                boxed_term(alloc, a.get())?,
+                boxed_term(alloc, b.get())?,
+            )),
+            Term::Div(a, b) => Ok(Term::Div(
+                boxed_term(alloc, a.get())?,
+                boxed_term(alloc, b.get())?,
+            )),
+            Term::Mod(a, b) => Ok(Term::Mod(
+                boxed_term(alloc, a.get())?,
+                boxed_term(alloc, b.get())?,
+            )),
+            Term::Read(a, i) => Ok(Term::Read(
+                boxed_term(alloc, a.get())?,
+                boxed_term(alloc, i.get())?,
+            )),
             Term::Put(a, i, e) => Ok(Term::Put(
-                again(alloc, a)?,
-                again(alloc, i)?,
-                again(alloc, e)?,
+                boxed_term(alloc, a.get())?,
+                boxed_term(alloc, i.get())?,
+                boxed_term(alloc, e.get())?,
             )),
             Term::Fun(f, args) => Ok(Term::Fun(f.copy(), copy_terms(alloc, args.as_slice())?)),
         }
     }
 }
 
+/// The same term again, in memory of its own.
 #[cycle(copy_term)]
-fn again(alloc: Global, term: &Boxed<Term>) -> Result<Boxed<Term>, AllocError>
+pub fn boxed_term(alloc: Global, term: &Term) -> Result<Boxed<Term>, AllocError>
     ensures { IfOk result (λ t. t ≡ term.now) }
 {
-    Boxed::new(alloc, term.get().copy(alloc)?)
+    Boxed::new(alloc, term.copy(alloc)?)
 }
 
 /// The same terms again.
@@ -66,21 +85,12 @@ impl Formula {
             Formula::Eq(s, t) => Ok(Formula::Eq(s.copy(alloc)?, t.copy(alloc)?)),
             Formula::Less(s, t) => Ok(Formula::Less(s.copy(alloc)?, t.copy(alloc)?)),
             Formula::AtMost(s, t) => Ok(Formula::AtMost(s.copy(alloc)?, t.copy(alloc)?)),
-            Formula::Not(f) => Ok(Formula::Not(formula_again(alloc, f)?)),
-            Formula::And(f, g) => Ok(Formula::And(
-                formula_again(alloc, f)?,
-                formula_again(alloc, g)?,
-            )),
-            Formula::Or(f, g) => Ok(Formula::Or(
-                formula_again(alloc, f)?,
-                formula_again(alloc, g)?,
-            )),
-            Formula::Imp(f, g) => Ok(Formula::Imp(
-                formula_again(alloc, f)?,
-                formula_again(alloc, g)?,
-            )),
-            Formula::All(sort, f) => Ok(Formula::All(*sort, formula_again(alloc, f)?)),
-            Formula::Any(sort, f) => Ok(Formula::Any(*sort, formula_again(alloc, f)?)),
+            Formula::Not(f) => Ok(Formula::Not(boxed(alloc, f.get())?)),
+            Formula::And(f, g) => Ok(Formula::And(boxed(alloc, f.get())?, boxed(alloc, g.get())?)),
+            Formula::Or(f, g) => Ok(Formula::Or(boxed(alloc, f.get())?, boxed(alloc, g.get())?)),
+            Formula::Imp(f, g) => Ok(Formula::Imp(boxed(alloc, f.get())?, boxed(alloc, g.get())?)),
+            Formula::All(sort, f) => Ok(Formula::All(*sort, boxed(alloc, f.get())?)),
+            Formula::Any(sort, f) => Ok(Formula::Any(*sort, boxed(alloc, f.get())?)),
             Formula::App(p, args) => Ok(Formula::App(
                 p.copy(),
                 copy_terms(alloc, args.as_slice())?,
@@ -89,9 +99,10 @@ impl Formula {
     }
 }
 
+/// The same formula again, in memory of its own.
 #[cycle(copy_formula)]
-fn formula_again(alloc: Global, formula: &Boxed<Formula>) -> Result<Boxed<Formula>, AllocError>
+pub fn boxed(alloc: Global, formula: &Formula) -> Result<Boxed<Formula>, AllocError>
     ensures { IfOk result (λ f. f ≡ formula.now) }
 {
-    Boxed::new(alloc, formula.get().copy(alloc)?)
+    Boxed::new(alloc, formula.copy(alloc)?)
 }

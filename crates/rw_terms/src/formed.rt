@@ -3,12 +3,13 @@
 ghost use Rattle.std.specs.Prelude.{◌≡◌, ◌+◌, ◌≤◌, ◌⊎◌, [], ◌∷◌, map, find, IfOk, IfErr, option_copied};
 ghost use Rattle.rw_terms.specs.Size.{term_weight, terms_weight};
 ghost use Rattle.rw_terms.specs.Sorts.{sort_report, binary};
-ghost use Rattle.rw_terms.specs.Formed.{formula_report, may_equal, may_be, same_sort, is_sort, is_head, takes, first_fault, equation, application};
+ghost use Rattle.rw_terms.specs.Formed.{formula_report, may_equal, may_be, is_sort, is_head, takes, first_fault, equation, application};
 ghost use Rattle.rw_terms.specs.WellFormed.{IsFormed, IsFormedRefusal};
 
 use crate::error::TermError;
 use crate::measure;
 use crate::name::Name;
+use crate::sameness::same_sort;
 use crate::scope::{Head, Scope};
 use crate::sorts::{MOST_DEPTH, MOST_PARTS, check_counted, given_sort, holds, is_int};
 use crate::term::{Formula, Sort, Term};
@@ -107,16 +108,6 @@ pub fn may_be(sort: Sort, other: Option<Sort>) -> bool
     match other {
         Some(other) => same_sort(sort, other),
         None => true,
-    }
-}
-
-fn same_sort(one: Sort, other: Sort) -> bool
-    ensures { result ≡ same_sort one other }
-{
-    match (one, other) {
-        (Sort::Int, Sort::Int) => true,
-        (Sort::Array(m), Sort::Array(n)) => m == n,
-        _ => false,
     }
 }
 

@@ -1,5 +1,6 @@
-use Rattle.std.proofs.Common.{◌≡◌, ◌&&◌, Bool, true, false, List, [], Some, sym, ap, ◌∙◌, subst, IfOk}
+use Rattle.std.proofs.Common.{◌≡◌, true, List, [], Some, sym, ap, ◌∙◌, subst, IfOk}
 use Rattle.std.specs.Prelude.{is_some}
+use Rattle.std.proofs.lemmas.Bool.{and_from}
 use Rattle.rw_terms.specs.declared.term.Term.{Term}
 use Rattle.rw_terms.specs.declared.term.Formula.{Formula}
 use Rattle.rw_terms.specs.declared.term.Formula.TheVariants as formula
@@ -10,16 +11,12 @@ use Rattle.rw_goals.specs.Sorting.{sort_of}
 use Rattle.rw_equations.specs.Equality.{sides_if, sides, rewritten_by}
 use Rattle.rw_equations.proofs.equality.rewritten_by.Goals as goal
 
-both_true : (a b : Bool) → true ≡ a → true ≡ b → (a && b) ≡ true
-both_true true b p q = sym q
-both_true false b p q = sym p
-
 -- the sides of an equation of terms that have sorts
 sides_are : (names : List Named) (f : Formula) (s t : Term) → f ≡ formula.Eq s t → true ≡ is_some (sort_of names [] s) → true ≡ is_some (sort_of names [] t) →
     sides names (out-Formula f) ≡ Some (s, t)
 sides_are names f s t e p q =
     ap (sides names) (ap out-Formula (e ∙ sym (formula.rolls-Eq s t)) ∙ out-roll-Formula (Formula-F.Eq s t))
-    ∙ ap (λ b. sides_if b s t) (both_true _ _ p q)
+    ∙ ap (λ b. sides_if b s t) (and_from _ _ (sym p) (sym q))
 
 pub returns-else-not-is_sorted-2 : goal.returns-else-not-is_sorted-2
 returns-else-not-is_sorted-2 c =

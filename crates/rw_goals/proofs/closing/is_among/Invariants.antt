@@ -1,6 +1,6 @@
 use Rattle.std.proofs.Common.{◌≡◌, drop}
 use Rattle.std.specs.List.{list_any}
-use Rattle.rw_goals.specs.Same.{same_formula}
+use Rattle.rw_terms.specs.Same.{same_formula}
 use Rattle.rw_goals.proofs.closing.is_among.Given as goal
 
 abbrev pub invariant-loop-g : goal.invariant-loop-g
