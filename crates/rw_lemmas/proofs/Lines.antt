@@ -10,6 +10,7 @@ use Rattle.rw_terms.specs.declared.term.Formula.TheViews.{out-Formula}
 use Rattle.rw_terms.specs.declared.sequent.Sequent.{Sequent}
 use Rattle.rw_terms.specs.Named.{Named}
 use Rattle.rw_terms.specs.Validity.{Each}
+use Rattle.rw_terms.specs.InScope.{only_if}
 use Rattle.rw_subst.specs.Conj.{conj_with, conj}
 use Rattle.rw_subst.specs.Replaced.{changed_leaves, opened_leaves, opened}
 use Rattle.rw_arith.specs.declared.error.LinError.{LinError}
@@ -29,7 +30,7 @@ use Rattle.rw_goals.specs.Cut.{cut_parts, leave_out}
 use Rattle.rw_goals.specs.Sorting.{sort_of}
 use Rattle.rw_goals.proofs.Sound.{joined}
 use Rattle.rw_goals.proofs.Places.{at_number, with_place}
-use Rattle.rw_axioms.specs.Axioms.{array_length, is_int, same_length, only_if, small_axiom, axiom_parts, put_same, put_other, extension, quotient_law, positive_law, negative_law, division, put_same_axiom, put_other_axiom, extension_axiom, division_axiom}
+use Rattle.rw_axioms.specs.Axioms.{array_length, is_int, same_length, small_axiom, axiom_parts, put_same, put_other, extension, quotient_law, positive_law, negative_law, division, put_same_axiom, put_other_axiom, extension_axiom, division_axiom}
 use Rattle.rw_equations.specs.declared.equality.Rewritten.{Rewritten}
 use Rattle.rw_equations.specs.declared.equality.Rewritten.TheVariants as rewritten
 use Rattle.rw_equations.specs.Equality as equality

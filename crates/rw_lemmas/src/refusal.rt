@@ -10,13 +10,13 @@ use crate::anew::proof_at;
 use crate::error::LemmaError;
 use rw_faults::unknown::predicate_unknown_in;
 use rw_goals::library::{Definition, Item};
-use rw_goals::sorting::same_sort;
 use rw_library::entries::{
     before_entry, entry_name, has_definition, has_lemma, heads_of, place_of,
 };
 use rw_library::naming::{cert_names, item_names};
 use rw_sequents::line::Cert;
 use rw_terms::name::Name;
+use rw_terms::sameness::same_sort;
 use rw_terms::term::Sort;
 use std::alloc::{AllocError, Global};
 
