@@ -1,5 +1,6 @@
 -- A formula that keeps the rules of sorts keeps them by other rules that say the same of the names and the predicates that stand in it.
 use Rattle.std.proofs.Common.{◌≡◌, ℕ, Bool, true, false, ◌||◌, ◌&&◌, List, [], ◌∷◌, map, find, Option, Some, None, refl, sym, ap, ◌∙◌, subst, true≢false}
+use Rattle.std.proofs.lemmas.Bool.{and_from, and_parts, or_parts}
 use Rattle.std.specs.Prelude.{bytes_eq, is_some, slice_get}
 use Rattle.rw_terms.specs.declared.scope.Entry.{Entry}
 use Rattle.rw_terms.specs.declared.scope.Head.{Head}
@@ -23,8 +24,7 @@ use Rattle.rw_goals.specs.declared.library.Item.{Item}
 use Rattle.rw_goals.specs.Library.{parameters_of}
 use Rattle.rw_goals.specs.Sorting as goals
 use Rattle.rw_library.specs.Naming.{applies_step, applies as stands}
-use Rattle.rw_soundness.proofs.Bits.{left_false, right_false, both_true}
-use Rattle.rw_collect.proofs.Bits.{and_true, first_none}
+use Rattle.rw_collect.proofs.Bits.{first_none}
 
 of_known : (s : Sort) (o : Option Sort) → is_of s o ≡ true → Known o
 of_known s None e = absurd (true≢false (sym e))
@@ -39,10 +39,10 @@ abbrev pub Not : Bool → Bool → Type 0
 Not asked b = asked ≡ true → b ≡ false
 
 pub not_left : (asked a b : Bool) → Not asked (a || b) → Not asked a
-not_left asked a b n on = left_false a b (n on)
+not_left asked a b n on = (or_parts a b (n on)).0
 
 pub not_right : (asked a b : Bool) → Not asked (a || b) → Not asked b
-not_right asked a b n on = right_false a b (n on)
+not_right asked a b n on = (or_parts a b (n on)).1
 
 -- the sort of a part by the sorts of variables and of constants
 abbrev pub by_names : (List ℕ → Option Sort) → (List ℕ → Option Sort) → List Sort → Term-F (Option Sort) → Option Sort
@@ -173,7 +173,7 @@ module _ (scope : List Entry) (heads : List Head) where
       same_sorts_of ss [] n e = refl
       same_sorts_of [] (t ∷ ts) n e = absurd (true≢false (sym e))
       same_sorts_of (s ∷ ss) (t ∷ ts) n e =
-          let parts = and_true (is_of s (old t)) (are_of ss (map old ts)) e in
+          let parts = and_parts (is_of s (old t)) (are_of ss (map old ts)) e in
           let here = same_sort_of t (not_left less (mentions x t) (terms_mention x ts) n) (of_known s (old t) parts.0) in
           let rest = same_sorts_of ss ts (not_right less (mentions x t) (terms_mention x ts) n) parts.1 in
           λ i. here i ∷ rest i
@@ -210,13 +210,13 @@ module _ (scope : List Entry) (heads : List Head) where
 
       joined : (f g : Part) → Not less (formula_mentions x f.0 || formula_mentions x g.0) → Ok f.0 × Ok g.0 → (b : List Sort) → (before f.0 b && before g.0 b) ≡ true → (after f.0 b && after g.0 b) ≡ true
       joined f g n m b e =
-          let parts = and_true (before f.0 b) (before g.0 b) e in
-          both_true (after f.0 b) (after g.0 b)
+          let parts = and_parts (before f.0 b) (before g.0 b) e in
+          and_from (after f.0 b) (after g.0 b)
           (f.1 (not_left less (formula_mentions x f.0) (formula_mentions x g.0) n) m.0 b parts.0)
           (g.1 (not_right less (formula_mentions x f.0) (formula_mentions x g.0) n) m.1 b parts.1)
 
       bound : (s : Sort) (f : Part) → Not less (formula_mentions x f.0) → Ok f.0 → (b : List Sort) → (is_sort s && before f.0 (s ∷ b)) ≡ true → (is_sort s && after f.0 (s ∷ b)) ≡ true
-      bound s f n m b e = let parts = and_true (is_sort s) (before f.0 (s ∷ b)) e in both_true (is_sort s) (after f.0 (s ∷ b)) parts.0 (f.1 n m (s ∷ b) parts.1)
+      bound s f n m b e = let parts = and_parts (is_sort s) (before f.0 (s ∷ b)) e in and_from (is_sort s) (after f.0 (s ∷ b)) parts.0 (f.1 n m (s ∷ b) parts.1)
 
       kept_layer : (y : Formula-F Part) → Not less (formula_mentions_step x (map-Formula Formula Bool (formula_mentions x) (inside y))) → OfParts Ok Allowed (inside y) → (b : List Sort) →
           keeps_step scope heads (map-Formula Formula (List Sort → Bool) before (inside y)) b ≡ true → by_sorts new take (map-Formula Formula (List Sort → Bool) after (inside y)) b ≡ true

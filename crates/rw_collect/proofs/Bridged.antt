@@ -1,5 +1,6 @@
 -- A table whose entries have different names, and whose formulas keep the rules of sorts, is well made.
 use Rattle.std.proofs.Common.{◌≡◌, ℕ, Bool, true, false, if◌then◌else◌, List, [], ◌∷◌, ◌++◌, find, Option, None, refl, sym, ap, ◌∙◌, subst, true≢false}
+use Rattle.std.proofs.lemmas.Bool.{or_parts, or_from}
 use Rattle.std.specs.Prelude.{bytes_eq, is_some}
 use Rattle.rw_terms.specs.declared.term.Sort.{Sort}
 use Rattle.rw_terms.specs.declared.term.Formula.{Formula}
@@ -16,8 +17,6 @@ use Rattle.rw_citations.specs.Goal.{scope_of_parameters}
 use Rattle.rw_citations.specs.WellMade.{IsMade, AreMade}
 use Rattle.rw_library.specs.Entries.{entry_name, is_entry, has_entry, put_entry, without_entry, heads_of}
 use Rattle.rw_meaning.proofs.Tests.{same_bytes, other_bytes}
-use Rattle.rw_soundness.proofs.Bits.{both_false}
-use Rattle.rw_collect.proofs.Bits.{or_false}
 use Rattle.rw_collect.proofs.Agreeing.{Others, take_entries, keeps_by_names, Any, All, any_opens}
 use Rattle.rw_collect.proofs.Served.{IsKept, AreKept, heads_last}
 
@@ -68,12 +67,12 @@ Differ (e ∷ es) = (has_entry (entry_name e) es ≡ false) × Differ es
 
 -- an entry that is set is of its own name
 put_none : (n : Item) (y : List ℕ) → bytes_eq (entry_name n) y ≡ false → (es : List Item) → has_entry y es ≡ false → has_entry y (put_entry es n) ≡ false
-put_none n y other [] e = both_false (bytes_eq (entry_name n) y) false other refl
-put_none n y other (d ∷ es) e = go (is_entry (entry_name n) d) (put_none n y other es (or_false (is_entry y d) (has_entry y es) e).1)
+put_none n y other [] e = or_from (bytes_eq (entry_name n) y) false other refl
+put_none n y other (d ∷ es) e = go (is_entry (entry_name n) d) (put_none n y other es (or_parts (is_entry y d) (has_entry y es) e).1)
   where
     go : (b : Bool) → has_entry y (put_entry es n) ≡ false → has_entry y (if b then n ∷ es else d ∷ put_entry es n) ≡ false
-    go true rest = both_false (bytes_eq (entry_name n) y) (has_entry y es) other (or_false (is_entry y d) (has_entry y es) e).1
-    go false rest = both_false (is_entry y d) (has_entry y (put_entry es n)) (or_false (is_entry y d) (has_entry y es) e).0 rest
+    go true rest = or_from (bytes_eq (entry_name n) y) (has_entry y es) other (or_parts (is_entry y d) (has_entry y es) e).1
+    go false rest = or_from (is_entry y d) (has_entry y (put_entry es n)) (or_parts (is_entry y d) (has_entry y es) e).0 rest
 
 pub put_differ : (n : Item) (es : List Item) → Differ es → Differ (put_entry es n)
 put_differ n [] e = (refl, tt)
@@ -85,11 +84,11 @@ put_differ n (d ∷ es) e = go (is_entry (entry_name n) d) refl (put_differ n es
 
 without_none : (x y : List ℕ) (es : List Item) → has_entry y es ≡ false → has_entry y (without_entry es x) ≡ false
 without_none x y [] e = refl
-without_none x y (d ∷ es) e = go (is_entry x d) (without_none x y es (or_false (is_entry y d) (has_entry y es) e).1)
+without_none x y (d ∷ es) e = go (is_entry x d) (without_none x y es (or_parts (is_entry y d) (has_entry y es) e).1)
   where
     go : (b : Bool) → has_entry y (without_entry es x) ≡ false → has_entry y (if b then es else d ∷ without_entry es x) ≡ false
-    go true rest = (or_false (is_entry y d) (has_entry y es) e).1
-    go false rest = both_false (is_entry y d) (has_entry y (without_entry es x)) (or_false (is_entry y d) (has_entry y es) e).0 rest
+    go true rest = (or_parts (is_entry y d) (has_entry y es) e).1
+    go false rest = or_from (is_entry y d) (has_entry y (without_entry es x)) (or_parts (is_entry y d) (has_entry y es) e).0 rest
 
 pub without_differ : (x : List ℕ) (es : List Item) → Differ es → Differ (without_entry es x)
 without_differ x [] e = tt
@@ -102,22 +101,22 @@ without_differ x (d ∷ es) e = go (is_entry x d) (without_differ x es e.1)
 -- a predicate that no entry has the name of is not defined
 not_defined : (es : List Item) (p : List ℕ) → has_entry p es ≡ false → parameters_of es p ≡ None
 not_defined [] p e = refl
-not_defined (Lemma l ∷ es) p e = not_defined es p (or_false (bytes_eq l.name p) (has_entry p es) e).1
+not_defined (Lemma l ∷ es) p e = not_defined es p (or_parts (bytes_eq l.name p) (has_entry p es) e).1
 not_defined (Definition d ∷ es) p e =
-    let parts = or_false (bytes_eq d.name p) (has_entry p es) e in ap (λ b. or_else (if_so b d.params) (parameters_of es p)) parts.0 ∙ not_defined es p parts.1
+    let parts = or_parts (bytes_eq d.name p) (has_entry p es) e in ap (λ b. or_else (if_so b d.params) (parameters_of es p)) parts.0 ∙ not_defined es p parts.1
 
 -- none of some entries has the name of one before them
 abbrev AreNew : List Item → List Item → Type 0
 AreNew before es = Each (λ e. has_entry (entry_name e) before ≡ false) es
 
 last_none : (x : List ℕ) (before : List Item) (e : Item) → has_entry x before ≡ false → is_entry x e ≡ false → has_entry x (before ++ e ∷ []) ≡ false
-last_none x [] e h is = both_false (is_entry x e) false is refl
-last_none x (d ∷ before) e h is = let parts = or_false (is_entry x d) (has_entry x before) h in both_false (is_entry x d) (has_entry x (before ++ e ∷ [])) parts.0 (last_none x before e parts.1 is)
+last_none x [] e h is = or_from (is_entry x e) false is refl
+last_none x (d ∷ before) e h is = let parts = or_parts (is_entry x d) (has_entry x before) h in or_from (is_entry x d) (has_entry x (before ++ e ∷ [])) parts.0 (last_none x before e parts.1 is)
 
 new_behind : (before : List Item) (e : Item) (es : List Item) → has_entry (entry_name e) es ≡ false → AreNew before es → AreNew (before ++ e ∷ []) es
 new_behind before e [] other new = tt
 new_behind before e (d ∷ es) other new =
-    let parts = or_false (is_entry (entry_name e) d) (has_entry (entry_name e) es) other in
+    let parts = or_parts (is_entry (entry_name e) d) (has_entry (entry_name e) es) other in
     (last_none (entry_name d) before e new.0 (other_bytes (entry_name d) (entry_name e) parts.0), new_behind before e es parts.1 new.1)
 
 module _ (all : List Item) where

@@ -7,8 +7,9 @@ use Rattle.rw_programs.specs.declared.prog.Prog.{Prog}
 use Rattle.rw_programs.specs.declared.prog.Prog.TheVariants as prog
 use Rattle.rw_programs.specs.declared.applied.Child.{Child}
 use Rattle.rw_programs.specs.State.{State, Fits, Holds}
-use Rattle.rw_programs.specs.Tables.{past}
+use Rattle.rw_programs.specs.Tables.{Table, past}
 use Rattle.rw_programs.specs.Refine.{Wp, Refines}
+use Rattle.rw_meaning.proofs.Contexts.{outermost}
 use Rattle.rw_goals.specs.Library.{definitions_of}
 use Rattle.rw_nodes.specs.declared.edit.Edit.{Edit}
 use Rattle.rw_nodes.specs.Edits.{globals_of, root_of}
@@ -60,7 +61,10 @@ closed_by : (l : List Edit) (w : Spec) (d : Prog) → Refined (library_of l) (ma
 unfolding main_context
 closed_by l w d refined guarded s meets =
     by_any_library (definitions_of (library_of l)) [] true (heads_by l) (past (heads_by l)) 0 (prog.Spec w) d s guarded
-    (refined s.own (bare (definitions_of (library_of l)) true) (past (bare (definitions_of (library_of l)) true)) 0 refl s meets (λ x value. refl))
+    (refined s.own own (past own) 0 refl s ((outermost own (scope_of l) s).1 meets) (λ x value. refl))
+  where
+    own : Table
+    own = bare (definitions_of (library_of l)) true
 
 main_ready : (most : ℕ) (l : List Edit) → IsGood most l → (w : Spec) → root_of l ≡ Some w → IsReadyChild (library_of l) (main_child l w)
 unfolding main_context

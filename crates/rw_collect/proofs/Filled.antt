@@ -12,8 +12,7 @@ use Rattle.rw_programs.specs.declared.prog.Prog.TheVariants as prog
 use Rattle.rw_programs.specs.declared.applied.Child.{Child}
 use Rattle.rw_programs.specs.declared.applied.Applied.{Applied}
 use Rattle.rw_programs.specs.Tables.{Table}
-use Rattle.rw_programs.specs.Refine.{RefinesGiven}
-use Rattle.rw_meaning.specs.Filling.{fill}
+use Rattle.rw_meaning.specs.Filling.{fill, RefinesIn}
 use Rattle.rw_sequents.specs.declared.line.Cert.{Cert}
 use Rattle.rw_laws.specs.declared.step.BasicStep.{BasicStep}
 use Rattle.rw_laws.specs.Counts.{counts}
@@ -62,9 +61,9 @@ module _ (library : Library) where
   abbrev collected : Node → Codes
   collected = code (heads_in library)
 
-  -- a program refines a specification where it stands, whatever the procedures and the values are
+  -- a program refines a specification in its context, whatever the procedures and the values are
   abbrev pub Refined : Child → Prog → Type 0
-  Refined c d = (fixed : Map) (E : Table) (p k : ℕ) → E.library ≡ definitions_of library → RefinesGiven fixed c.context.scope E p k (prog.Spec c.spec) E p k d
+  Refined c d = (fixed : Map) (E : Table) (p k : ℕ) → E.library ≡ definitions_of library → RefinesIn fixed c.context.opened c.context.scope E p k (prog.Spec c.spec) d
 
   abbrev pub IsReadyChild : Child → Type 0
   IsReadyChild c = IsReady c.context.scope (heads_in library) c.spec
@@ -132,7 +131,7 @@ module _ (library : Library) where
   kids_meet fixed E p k by kids [] (c ∷ children) n at h = absurd h
   kids_meet fixed E p k by kids (d ∷ ds) [] n at h = absurd h
   kids_meet fixed E p k by kids (d ∷ ds) (c ∷ children) n at h = (
-    subst (λ e. RefinesGiven fixed c.context.scope E p k (prog.Spec c.spec) E p k e) (sym (ap kids (itself n) ∙ at 0 d refl)) (h.0.0 fixed E p k by),
+    subst (λ e. RefinesIn fixed c.context.opened c.context.scope E p k (prog.Spec c.spec) e) (sym (ap kids (itself n) ∙ at 0 d refl)) (h.0.0 fixed E p k by),
     kids_meet fixed E p k by kids ds children (suc n) (λ j e is. ap kids (next j) ∙ at (suc j) e is) h.1,
   )
     where
@@ -160,7 +159,7 @@ module _ (library : Library) where
     pub ready : Each IsReadyChild a.children
     pub guarded : IsGuarded a.skeleton
     pub sound : (fixed : Map) (E : Table) (p k : ℕ) (kids : ℕ → Prog) → Each (Valid E.library) a.obligations → KidsMeet fixed E p k kids 1 a.children →
-        RefinesGiven fixed c.context.scope E p k (prog.Spec c.spec) E p k (fill kids a.skeleton)
+        RefinesIn fixed c.context.opened c.context.scope E p k (prog.Spec c.spec) (fill kids a.skeleton)
 
   basic_sound : (c : Child) (s : BasicStep) → IsReadyChild c → (a : Applied) → law_of c.context (heads_in library) c.spec s ≡ fits a → IsSoundFor c (counts s).kids a
   basic_sound c s ready a e = record {

@@ -1,5 +1,6 @@
 -- A program without specifications, whose guards have no predicate, means the same by every library.
-use Rattle.std.proofs.Common.{◌≡◌, ◌↔◌, ℕ, zero, suc, ◌≤◌, Bool, true, List, [], reverse, inl, inr, sym, ◌∙◌, subst, true≢false}
+use Rattle.std.proofs.Common.{◌≡◌, ◌↔◌, ℕ, zero, suc, ◌≤◌, Bool, true, false, List, [], reverse, inl, inr, sym, ◌∙◌, subst, true≢false}
+use Rattle.std.proofs.lemmas.Bool.{and_parts}
 use Rattle.rw_terms.specs.declared.term.Formula.{Formula}
 use Rattle.rw_terms.specs.declared.term.Formula.TheOpen.{Formula-F}
 use Rattle.rw_terms.specs.declared.term.Formula.TheViews.{roll-Formula}
@@ -16,7 +17,6 @@ use Rattle.rw_programs.specs.Tables.{Table, past}
 use Rattle.rw_programs.specs.Meaning.{Bodies, bodies, bodies_before, ends_by, sure_by, arm_ends, arms_sure, NoGuard, GuardsDefined, Chain}
 use Rattle.rw_programs.specs.Refine.{BetterAt}
 use Rattle.rw_meaning.specs.Filling.{fill, fill_row}
-use Rattle.rw_collect.proofs.Bits.{and_true}
 
 abbrev mutual
   -- no specification is in the program, and its guards are those of code
@@ -85,9 +85,9 @@ module _ (says more : Predicates) (var init const : List ℕ → Value) where
   same_layer (Formula-F.Less t u) g b = (λ h. h, λ h. h)
   same_layer (Formula-F.AtMost t u) g b = (λ h. h, λ h. h)
   same_layer (Formula-F.Not f) g b = not_iff (f.1 g b)
-  same_layer (Formula-F.And f h) g b = let p = and_true (is_guard f.0) (is_guard h.0) g in and_iff (f.1 p.0 b) (h.1 p.1 b)
-  same_layer (Formula-F.Or f h) g b = let p = and_true (is_guard f.0) (is_guard h.0) g in not_iff (and_iff (not_iff (f.1 p.0 b)) (not_iff (h.1 p.1 b)))
-  same_layer (Formula-F.Imp f h) g b = let p = and_true (is_guard f.0) (is_guard h.0) g in imp_iff (f.1 p.0 b) (h.1 p.1 b)
+  same_layer (Formula-F.And f h) g b = let p = and_parts (is_guard f.0) (is_guard h.0) g in and_iff (f.1 p.0 b) (h.1 p.1 b)
+  same_layer (Formula-F.Or f h) g b = let p = and_parts (is_guard f.0) (is_guard h.0) g in not_iff (and_iff (not_iff (f.1 p.0 b)) (not_iff (h.1 p.1 b)))
+  same_layer (Formula-F.Imp f h) g b = let p = and_parts (is_guard f.0) (is_guard h.0) g in imp_iff (f.1 p.0 b) (h.1 p.1 b)
   same_layer (Formula-F.All s f) g b = absurd (true≢false (sym g))
   same_layer (Formula-F.Any s f) g b = absurd (true≢false (sym g))
   same_layer (Formula-F.App p ts) g b = absurd (true≢false (sym g))
@@ -111,9 +111,9 @@ chain_map : (R Q : State → State → Type 0) → ((s t : State) → R s t → 
 chain_map R Q f zero s t e = e
 chain_map R Q f (suc k) s t e = (e.0, chain_map R Q f k s e.0 e.1, f e.0 t e.2)
 
--- no procedures and no modules are at hand
+-- no procedures and no modules are at hand, and any number may bound a loop's turns
 abbrev pub bare : List Definition → Bool → Table
-bare library concrete = record { library = library; is_concrete = concrete; procs = []; modules = [] }
+bare library concrete = record { library = library; is_concrete = concrete; by_variant = false; procs = []; modules = [] }
 
 module _ (one two : List Definition) (concrete : Bool) (calls before others earlier : Bodies) where
   abbrev E : Table
@@ -156,12 +156,12 @@ module _ (one two : List Definition) (concrete : Bool) (calls before others earl
     back_turns k s t e = chain_map _ _ (λ u v. (a.ends u v).1) k s t e
 
     abbrev LoopSure : (ℕ → State → State → Type 0) → (State → Type 0) → State → Type 0
-    LoopSure turns sure s = ((n : ℕ) × ((k : ℕ) (t : State) → turns k s t → k ≤ n)) × ((k : ℕ) (t : State) → turns k s t → GuardsDefined arms t × sure t)
+    LoopSure turns sure s = ((n : ℕ) × ((k : ℕ) (t : State) → turns k s t → k ≤ n) × Unit {0}) × ((k : ℕ) (t : State) → turns k s t → GuardsDefined arms t × sure t)
 
     loop_sure : (s : State) → LoopSure (TurnsOf arms) (arms_sure E calls before arms) s ↔ LoopSure (OtherTurns arms) (arms_sure F others earlier arms) s
     loop_sure s = (
-      λ h. ((h.0.0, λ k t e. h.0.1 k t (back_turns k s t e)), λ k t e. let r = h.1 k t (back_turns k s t e) in (r.0, (a.sure t).0 r.1)),
-      λ h. ((h.0.0, λ k t e. h.0.1 k t (there_turns k s t e)), λ k t e. let r = h.1 k t (there_turns k s t e) in (r.0, (a.sure t).1 r.1)),
+      λ h. ((h.0.0, (λ k t e. h.0.1 k t (back_turns k s t e)), tt), λ k t e. let r = h.1 k t (back_turns k s t e) in (r.0, (a.sure t).0 r.1)),
+      λ h. ((h.0.0, (λ k t e. h.0.1 k t (there_turns k s t e)), tt), λ k t e. let r = h.1 k t (there_turns k s t e) in (r.0, (a.sure t).1 r.1)),
     )
 
     loop_ends : (s t : State) → (((n : ℕ) × TurnsOf arms n s t) × NoGuard one arms t) ↔ (((n : ℕ) × OtherTurns arms n s t) × NoGuard two arms t)

@@ -1,5 +1,6 @@
 -- The lemmas that a closed derivation cites are valid.
 use Rattle.std.proofs.Common.{◌≡◌, ℕ, zero, suc, ◌+◌, ◌-◌, ◌≤◌, Bool, true, false, ◌||◌, ◌&&◌, List, [], ◌∷◌, length, map, filter, take, Option, Some, None, refl, sym, ap, ◌∙◌, subst, true≢false, arith}
+use Rattle.std.proofs.lemmas.Bool.{or_left, or_right}
 use Rattle.std.specs.Prelude.{slice_get, if◌then◌else◌}
 use Rattle.std.specs.Option.{option_and_then}
 use Rattle.std.specs.List.{list_any}
@@ -30,7 +31,6 @@ use Rattle.rw_tree.specs.declared.status.NeedState.TheVariants as need
 use Rattle.rw_tree.specs.declared.status.LemmaMark.{LemmaMark}
 use Rattle.rw_tree.specs.Anew.{state_of, proof_at, lemma_marks, certified, library_of, anew}
 use Rattle.rw_tree.specs.Uses.{proof_cites, node_cites_step, node_cites, marked_cites, is_cited, marks_after, is_used, IsClosed}
-use Rattle.rw_collect.proofs.Bits.{left_or, right_or}
 use Rattle.rw_collect.proofs.Needs.{certified_good}
 
 -- P of the names that lines cite, where it is so of each name that is cited
@@ -41,7 +41,7 @@ of_line P _ h = tt
 all_lines : (P : List ℕ → Type 0) (ls : List CertLine) → ((n : List ℕ) → list_any (line_cites n) ls ≡ true → P n) → Each (OfCited P) ls
 all_lines P [] h = tt
 all_lines P (l ∷ ls) h =
-    (of_line P l (λ n e. h n (left_or (line_cites n l) (list_any (line_cites n) ls) e)), all_lines P ls (λ n e. h n (right_or (line_cites n l) (list_any (line_cites n) ls) e)))
+    (of_line P l (λ n e. h n (or_left (line_cites n l) (list_any (line_cites n) ls) e)), all_lines P ls (λ n e. h n (or_right (line_cites n l) (list_any (line_cites n) ls) e)))
 
 pub all_cited : (P : List ℕ → Type 0) (c : Cert) → ((n : List ℕ) → cites n c ≡ true → P n) → AllCited P c
 all_cited P c h = all_lines P c.lines h
@@ -53,8 +53,8 @@ marked_there x (b ∷ marks) [] p c m e h = absurd (cc)
 marked_there x (b ∷ marks) (o ∷ proofs) zero c m e h =
     let marked : b ≡ true = cc in
     let proof : o ≡ Some c = cc in
-    left_or (b && proof_cites x o) (marked_cites x marks proofs) ((λ i. marked i && proof_cites x (proof i)) ∙ h)
-marked_there x (b ∷ marks) (o ∷ proofs) (suc p) c m e h = right_or (b && proof_cites x o) (marked_cites x marks proofs) (marked_there x marks proofs p c m e h)
+    or_left (b && proof_cites x o) (marked_cites x marks proofs) ((λ i. marked i && proof_cites x (proof i)) ∙ h)
+marked_there x (b ∷ marks) (o ∷ proofs) (suc p) c m e h = or_right (b && proof_cites x o) (marked_cites x marks proofs) (marked_there x marks proofs p c m e h)
 
 get_map : {A B : Type 0} (f : A → B) (xs : List A) (p : ℕ) (x : A) → slice_get xs p ≡ Some x → slice_get (map f xs) p ≡ Some (f x)
 get_map f [] p x e = absurd (cc)
@@ -76,9 +76,9 @@ still_cited x (b ∷ marks) (c ∷ more) [] below e = e
 still_cited x (b ∷ marks) (c ∷ more) (p ∷ proofs) below e = go b below.0 (proof_cites x p) e (still_cited x marks more proofs below.1)
   where
     go : (b : Bool) → (b ≡ true → c ≡ true) → (d : Bool) → ((b && d) || marked_cites x marks proofs) ≡ true → (marked_cites x marks proofs ≡ true → marked_cites x more proofs ≡ true) → ((c && d) || marked_cites x more proofs) ≡ true
-    go true to true e rest = left_or (c && true) (marked_cites x more proofs) (ap (λ a. a && true) (to refl))
-    go true to false e rest = right_or (c && false) (marked_cites x more proofs) (rest e)
-    go false to d e rest = right_or (c && d) (marked_cites x more proofs) (rest e)
+    go true to true e rest = or_left (c && true) (marked_cites x more proofs) (ap (λ a. a && true) (to refl))
+    go true to false e rest = or_right (c && false) (marked_cites x more proofs) (rest e)
+    go false to d e rest = or_right (c && d) (marked_cites x more proofs) (rest e)
 
 module _ (main : Node) (entries : List Item) (proofs : List (Option Cert)) where
   abbrev cited_by : List Bool → List ℕ → Bool
@@ -118,14 +118,14 @@ module _ (main : Node) (entries : List Item) (proofs : List (Option Cert)) where
 
   -- what the tree cites is cited in the first round
   pub cited_first : (x : List ℕ) → node_cites x main ≡ true → cited 0 x ≡ true
-  cited_first x e = left_or (node_cites x main) (marked_cites x (marks_after main entries proofs 0) proofs) e
+  cited_first x e = or_left (node_cites x main) (marked_cites x (marks_after main entries proofs 0) proofs) e
 
   -- what the certificate of a lemma of a round cites is cited in the next one
   pub cited_next : (r p : ℕ) (l : Lemma) (c : Cert) → slice_get entries p ≡ Some (item.Lemma l) → slice_get proofs p ≡ Some (Some c) → cited r l.name ≡ true → AllCited (λ n. cited (suc r) n ≡ true) c
   cited_next r p l c there beside e =
       let marked : slice_get (marks_after main entries proofs (suc r)) p ≡ Some true = get_map (λ e. cited_by (marks_after main entries proofs r) (entry_name e)) entries p (item.Lemma l) there ∙ ap Some e in
       all_cited (λ n. cited (suc r) n ≡ true) c
-      (λ n h. right_or (node_cites n main) (marked_cites n (marks_after main entries proofs (suc r)) proofs) (marked_there n (marks_after main entries proofs (suc r)) proofs p c marked beside h))
+      (λ n h. or_right (node_cites n main) (marked_cites n (marks_after main entries proofs (suc r)) proofs) (marked_there n (marks_after main entries proofs (suc r)) proofs p c marked beside h))
 
 abbrev IsGoodLemma : LemmaMark → Type 0
 IsGoodLemma m = m.state ≡ need.Good
@@ -197,17 +197,17 @@ cites-out x n = fold_out-Node Bool (node_cites_step x) n
 
 any_there : (x : List ℕ) (kids : List Node) (j : ℕ) (kid : Node) → slice_get kids j ≡ Some kid → node_cites x kid ≡ true → any_of (map (node_cites x) kids) ≡ true
 any_there x [] j kid there e = absurd (cc)
-any_there x (k ∷ kids) zero kid there e = let is : k ≡ kid = cc in left_or (node_cites x k) (any_of (map (node_cites x) kids)) (ap (node_cites x) is ∙ e)
-any_there x (k ∷ kids) (suc j) kid there e = right_or (node_cites x k) (any_of (map (node_cites x) kids)) (any_there x kids j kid there e)
+any_there x (k ∷ kids) zero kid there e = let is : k ≡ kid = cc in or_left (node_cites x k) (any_of (map (node_cites x) kids)) (ap (node_cites x) is ∙ e)
+any_there x (k ∷ kids) (suc j) kid there e = or_right (node_cites x k) (any_of (map (node_cites x) kids)) (any_there x kids j kid there e)
 
 pub kid_cites : (x : List ℕ) (n : Node) (j : ℕ) (kid : Node) → slice_get (out-Node n).kids j ≡ Some kid → node_cites x kid ≡ true → node_cites x n ≡ true
-kid_cites x n j kid there e = cites-out x n ∙ right_or (list_any (proof_cites x) (out-Node n).certs) (any_of (map (node_cites x) (out-Node n).kids)) (any_there x (out-Node n).kids j kid there e)
+kid_cites x n j kid there e = cites-out x n ∙ or_right (list_any (proof_cites x) (out-Node n).certs) (any_of (map (node_cites x) (out-Node n).kids)) (any_there x (out-Node n).kids j kid there e)
 
 certs_cite : (x : List ℕ) (certs : List (Option Cert)) (j : ℕ) (c : Cert) → slice_get certs j ≡ Some (Some c) → cites x c ≡ true → list_any (proof_cites x) certs ≡ true
 certs_cite x [] j c there e = absurd (cc)
-certs_cite x (o ∷ certs) zero c there e = let is : o ≡ Some c = cc in left_or (proof_cites x o) (list_any (proof_cites x) certs) (ap (proof_cites x) is ∙ e)
-certs_cite x (o ∷ certs) (suc j) c there e = right_or (proof_cites x o) (list_any (proof_cites x) certs) (certs_cite x certs j c there e)
+certs_cite x (o ∷ certs) zero c there e = let is : o ≡ Some c = cc in or_left (proof_cites x o) (list_any (proof_cites x) certs) (ap (proof_cites x) is ∙ e)
+certs_cite x (o ∷ certs) (suc j) c there e = or_right (proof_cites x o) (list_any (proof_cites x) certs) (certs_cite x certs j c there e)
 
 pub own_cites : (x : List ℕ) (n : Node) (k : ℕ) (c : Cert) → certified (out-Node n).certs k ≡ Some c → cites x c ≡ true → node_cites x n ≡ true
 own_cites x n zero c there e = absurd (cc)
-own_cites x n (suc j) c there e = cites-out x n ∙ left_or (list_any (proof_cites x) (out-Node n).certs) (any_of (map (node_cites x) (out-Node n).kids)) (certs_cite x (out-Node n).certs j c (proof_there (out-Node n).certs j c there) e)
+own_cites x n (suc j) c there e = cites-out x n ∙ or_left (list_any (proof_cites x) (out-Node n).certs) (any_of (map (node_cites x) (out-Node n).kids)) (certs_cite x (out-Node n).certs j c (proof_there (out-Node n).certs j c there) e)

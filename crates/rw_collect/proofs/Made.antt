@@ -11,7 +11,7 @@ use Rattle.rw_terms.specs.Formed.{is_head, same_sort}
 use Rattle.rw_terms.specs.Rules.{applies, keeps_rules}
 use Rattle.rw_terms.specs.Validity.{Each}
 use Rattle.rw_faults.specs.Faults.{predicate_unknown_in}
-use Rattle.std.proofs.lemmas.Bool.{eqb-true}
+use Rattle.std.proofs.lemmas.Bool.{eqb-true, and_parts, or_parts}
 use Rattle.rw_goals.specs.declared.library.Definition as definitions
 use Rattle.rw_goals.specs.declared.library.Lemma as lemmas
 use Rattle.rw_goals.specs.declared.library.Item.{Item}
@@ -33,7 +33,6 @@ use Rattle.rw_tree.specs.Entering.{heads_with, same_sorts, keeps_sorts, define_r
 use Rattle.rw_tree.specs.Accepting.{IsGood, Accepts}
 use Rattle.rw_tree.specs.Anew.{library_of}
 use Rattle.rw_tree.proofs.Same.{first_told}
-use Rattle.rw_collect.proofs.Bits.{and_true, or_false}
 use Rattle.rw_collect.proofs.Agreeing.{Others, take_heads, keeps_otherwise, known_opens}
 use Rattle.rw_collect.proofs.Served.{heads_in, Serves, same_serve, never_asked, serves_keep, IsKept, AreKept, IsUnused, Fitting, put_serves, without_serves, put_kept, without_kept}
 use Rattle.rw_collect.proofs.Bridged.{Differ, put_differ, without_differ, well_made}
@@ -94,18 +93,18 @@ sorts_same : (ss ts : List Sort) → same_sorts ss ts ≡ true → ss ≡ ts
 sorts_same [] [] e = refl
 sorts_same [] (t ∷ ts) e = absurd (true≢false (sym e))
 sorts_same (s ∷ ss) [] e = absurd (true≢false (sym e))
-sorts_same (s ∷ ss) (t ∷ ts) e = let p = and_true (same_sort s t) (same_sorts ss ts) e in λ i. sort_same s t p.0 i ∷ sorts_same ss ts p.1 i
+sorts_same (s ∷ ss) (t ∷ ts) e = let p = and_parts (same_sort s t) (same_sorts ss ts) e in λ i. sort_same s t p.0 i ∷ sorts_same ss ts p.1 i
 
 -- of entries without the name anything may be said where they have it
 none_named : (x : List ℕ) (n : Item) (es : List Item) → has_entry x es ≡ false → Each (λ e. is_entry x e ≡ true → heads_in e ≡ heads_in n) es
 none_named x n [] none = tt
-none_named x n (e ∷ es) none = let p = or_false (is_entry x e) (has_entry x es) none in (λ is. absurd (true≢false (sym is ∙ p.0)), none_named x n es p.1)
+none_named x n (e ∷ es) none = let p = or_parts (is_entry x e) (has_entry x es) none in (λ is. absurd (true≢false (sym is ∙ p.0)), none_named x n es p.1)
 
 -- a definition that keeps its sorts gives the same head
 fits_again : (d : definitions.Definition) (es : List Item) → has_lemma d.name es ≡ false → Differ es → keeps_sorts d es ≡ true → Each (λ e. is_entry d.name e ≡ true → heads_in e ≡ heads_in (Definition d)) es
 fits_again d [] none differ keeps = tt
 fits_again d (Lemma l ∷ es) none differ keeps =
-    let p = or_false (bytes_eq l.name d.name) (has_lemma d.name es) none in (λ is. absurd (true≢false (sym is ∙ p.0)), fits_again d es p.1 differ.1 keeps)
+    let p = or_parts (bytes_eq l.name d.name) (has_lemma d.name es) none in (λ is. absurd (true≢false (sym is ∙ p.0)), fits_again d es p.1 differ.1 keeps)
 fits_again d (Definition e ∷ es) none differ keeps = go (bytes_eq e.name d.name) refl keeps (fits_again d es none differ.1)
   where
     same_head : bytes_eq e.name d.name ≡ true → same_sorts (sorts_of e.params) (sorts_of d.params) ≡ true → heads_in (Definition e) ≡ heads_in (Definition d)
@@ -121,7 +120,7 @@ fits_again d (Definition e ∷ es) none differ keeps = go (bytes_eq e.name d.nam
 pub lemma_again : (l : lemmas.Lemma) (es : List Item) → has_definition l.name es ≡ false → Each (λ e. is_entry l.name e ≡ true → heads_in e ≡ heads_in (Lemma l)) es
 lemma_again l [] none = tt
 lemma_again l (Lemma m ∷ es) none = (λ is. refl, lemma_again l es none)
-lemma_again l (Definition d ∷ es) none = let p = or_false (bytes_eq d.name l.name) (has_definition l.name es) none in (λ is. absurd (true≢false (sym is ∙ p.0)), lemma_again l es p.1)
+lemma_again l (Definition d ∷ es) none = let p = or_parts (bytes_eq d.name l.name) (has_definition l.name es) none in (λ is. absurd (true≢false (sym is ∙ p.0)), lemma_again l es p.1)
 
 -- how a definition is set: with the same head, or where nothing uses it
 pub record Mode (most : ℕ) (l : List Edit) (d : definitions.Definition) : Type 0 where

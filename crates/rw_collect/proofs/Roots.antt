@@ -1,5 +1,6 @@
 -- The root of accepted edits is well-formed over the globals, by the heads of the table.
 use Rattle.std.proofs.Common.{◌≡◌, ℕ, Bool, true, false, not, if◌then◌else◌, ◌||◌, ◌&&◌, is_some, List, [], ◌∷◌, length, map, find, Option, Some, None, refl, sym, ap, ◌∙◌, subst, true≢false}
+use Rattle.std.proofs.lemmas.Bool.{false_from_ne_true, or_parts}
 use Rattle.std.specs.Prelude.{bytes_eq, nat_lt, option_and_then}
 use Rattle.rw_terms.specs.declared.scope.Entry.{Entry}
 use Rattle.rw_terms.specs.declared.scope.Head.{Head}
@@ -17,7 +18,7 @@ use Rattle.rw_programs.specs.State.{Name, is_in}
 use Rattle.rw_programs.specs.Refine.{is_value}
 use Rattle.rw_meaning.proofs.Tests.{same_bytes, bytes_same}
 use Rattle.rw_soundness.specs.Sound.{IsReady}
-use Rattle.rw_soundness.proofs.Bits.{left_false, right_false, is_false, listed_in}
+use Rattle.rw_soundness.proofs.Bits.{listed_in}
 use Rattle.rw_soundness.proofs.Longer.{ready_longer}
 use Rattle.rw_goals.specs.declared.library.Item.TheVariants as item
 use Rattle.rw_library.specs.Entries.{has_entry, put_entry, without_entry, heads_of}
@@ -111,8 +112,8 @@ root_told globals heads w e =
 -- it stays so where heads serve it
 ready_served : (scope : List Entry) (asked : Bool) (x : Name) (hs more : List Head) (w : Spec) → Serves asked x hs more → Not asked (stands x w.pre || stands x w.post) → IsReady scope hs w → IsReady scope more w
 ready_served scope asked x hs more w serves unused ready = record {
-  pre = (ready.pre.0, serves_keep scope asked x hs more serves w.pre (λ on. left_false (stands x w.pre) (stands x w.post) (unused on)) ready.pre.1);
-  post = (ready.post.0, serves_keep scope asked x hs more serves w.post (λ on. right_false (stands x w.pre) (stands x w.post) (unused on)) ready.post.1);
+  pre = (ready.pre.0, serves_keep scope asked x hs more serves w.pre (λ on. (or_parts (stands x w.pre) (stands x w.post) (unused on)).0) ready.pre.1);
+  post = (ready.post.0, serves_keep scope asked x hs more serves w.post (λ on. (or_parts (stands x w.pre) (stands x w.post) (unused on)).1) ready.post.1);
   variables = ready.variables;
   no_values = ready.no_values;
   differ = ready.differ;
@@ -135,8 +136,8 @@ less_found (p ∷ globals) x y other = go (bytes_eq p.name x) refl (bytes_eq p.n
 -- the root stays well-formed where a global is dropped of which it does not speak
 ready_less : (globals : List Param) (x : Name) (heads : List Head) (w : Spec) → root_speaks x (Some w) ≡ false → IsReady (map global globals) heads w → IsReady (map global (without_param globals x)) heads w
 ready_less globals x heads w silent ready = record {
-  pre = (ready.pre.0, less_kept w.pre (left_false (formula_mentions x w.pre) (formula_mentions x w.post) formulas) ready.pre.1);
-  post = (ready.post.0, less_kept w.post (right_false (formula_mentions x w.pre) (formula_mentions x w.post) formulas) ready.post.1);
+  pre = (ready.pre.0, less_kept w.pre (or_parts (formula_mentions x w.pre) (formula_mentions x w.post) formulas).0 ready.pre.1);
+  post = (ready.post.0, less_kept w.post (or_parts (formula_mentions x w.pre) (formula_mentions x w.post) formulas).1 ready.post.1);
   variables = λ y i. ap (λ o. is_some (option_and_then (λ (e : Entry). as_variable e.kind e.sort) o)) (less_found globals x y (other y i)) ∙ ready.variables y i;
   no_values = λ y i. never_value (without_param globals x) y;
   differ = ready.differ;
@@ -145,13 +146,13 @@ ready_less globals x heads w silent ready = record {
 }
   where
     formulas : (formula_mentions x w.pre || formula_mentions x w.post) ≡ false
-    formulas = right_false (is_listed w.frame x) (formula_mentions x w.pre || formula_mentions x w.post) silent
+    formulas = (or_parts (is_listed w.frame x) (formula_mentions x w.pre || formula_mentions x w.post) silent).1
 
     framed : is_in x w.frame ≡ false
-    framed = sym (listed_in w.frame x) ∙ left_false (is_listed w.frame x) (formula_mentions x w.pre || formula_mentions x w.post) silent
+    framed = sym (listed_in w.frame x) ∙ (or_parts (is_listed w.frame x) (formula_mentions x w.pre || formula_mentions x w.post) silent).0
 
     other : (y : Name) → is_in y w.frame ≡ true → bytes_eq x y ≡ false
-    other y i = is_false (bytes_eq x y) (λ is. true≢false (sym i ∙ ap (λ z. is_in z w.frame) (sym (same_bytes x y is)) ∙ framed))
+    other y i = false_from_ne_true (bytes_eq x y) (λ is. true≢false (sym i ∙ ap (λ z. is_in z w.frame) (sym (same_bytes x y is)) ∙ framed))
 
     others : Others (map global globals) heads (variable_sort (map global (without_param globals x))) (constant_sort (map global (without_param globals x))) (take_heads (map global (without_param globals x)) heads) true x All
     others = record {

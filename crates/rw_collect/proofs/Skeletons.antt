@@ -1,5 +1,6 @@
 -- What a law makes has no specification in it, and guards of code.
 use Rattle.std.proofs.Common.{◌≡◌, ℕ, suc, Bool, true, false, ◌&&◌, ◌++◌, length, nat_le, if◌then◌else◌, List, [], ◌∷◌, Option, Some, None, sym, ap, ◌∙◌, subst}
+use Rattle.std.proofs.lemmas.Bool.{and_parts}
 use Rattle.std.specs.Prelude.{not}
 use Rattle.rw_terms.specs.declared.scope.Entry.{Entry}
 use Rattle.rw_terms.specs.declared.scope.Head.{Head}
@@ -26,19 +27,18 @@ use Rattle.rw_programs.specs.declared.applied.Misfit.TheVariants as cause
 use Rattle.rw_laws.specs.declared.step.BasicStep.{BasicStep}
 use Rattle.rw_laws.specs.declared.step.BasicStep.TheVariants as basic
 use Rattle.rw_laws.specs.declared.premises.Premises.{Premises}
-use Rattle.rw_laws.specs.Derived.{unchanged_post, initial_pre, assigned_post, followed_post, pinned, pins_for, pinned_pre, contracted_post, expanded_post}
-use Rattle.rw_laws.specs.Causes.{new_cause, seq_cause, assign_cause, seqcon_cause, con_cause, contract_cause, expand_cause}
+use Rattle.rw_derived.specs.Derived.{unchanged_post, initial_pre, assigned_post, followed_post, pinned, pins_for, pinned_pre, contracted_post, expanded_post}
+use Rattle.rw_derived.specs.Causes.{new_cause, seq_cause, assign_cause, seqcon_cause, con_cause, contract_cause, expand_cause}
 use Rattle.rw_laws.specs.Laws.{fits, applied, law_with, law_of, skip_law, weaken_law, strengthen_law, assign_law, follow_law, seq_law, seqcon_law, con_law, contract_law, expand_law, skip_premises, weaken_premises, strengthen_premises, assign_premises, follow_premises, seq_premises, seqcon_premises, con_premises, contract_premises, expand_premises, pin}
 use Rattle.rw_loops.specs.declared.step.LoopStep.{LoopStep}
 use Rattle.rw_loops.specs.declared.step.LoopStep.TheVariants as loop
 use Rattle.rw_loops.specs.Guards.{disj_with, disj}
-use Rattle.rw_loops.specs.Same.{same_formula}
+use Rattle.rw_terms.specs.Same.{same_formula}
 use Rattle.rw_loops.specs.Code.{code_misfit}
 use Rattle.rw_loops.specs.Laws.{arms_from, if_made, if_law, not_below_0, loop_post, loop_code, do_made, do_misfit, do_law, block_misfit, block_made, block_law}
 use Rattle.rw_loops.specs.Laws as loops
 use Rattle.rw_loops.proofs.Fitting.{fitting}
 use Rattle.rw_loops.proofs.Placed.{is_code}
-use Rattle.rw_collect.proofs.Bits.{and_true}
 use Rattle.rw_collect.proofs.Guarded.{IsGuarded}
 
 with_guarded : (first : Option Misfit) (within twice : Bool) (s : Prog) (p : Premises) (a : Applied) → IsGuarded s → law_with first within twice s p ≡ fits a → IsGuarded a.skeleton
@@ -78,10 +78,10 @@ basic_guarded context heads w (basic.Expand names) a e =
     with_guarded (expand_cause context.scope w names) (is_small (expanded_post w names) && nat_le (length (w.frame ++ names)) 64) (is_twice names) (prog.Kid 1) (expand_premises context w names) a tt e
 
 or_guards : (f g : Formula) → is_guard (formula.Or f g) ≡ true → (is_guard f ≡ true) × (is_guard g ≡ true)
-or_guards f g e = and_true (is_guard f) (is_guard g) (sym (ap is_guard (sym (formula.rolls-Or f g)) ∙ fold-roll-Formula Bool guard_step (Formula-F.Or f g)) ∙ e)
+or_guards f g e = and_parts (is_guard f) (is_guard g) (sym (ap is_guard (sym (formula.rolls-Or f g)) ∙ fold-roll-Formula Bool guard_step (Formula-F.Or f g)) ∙ e)
 
 and_guards : (f g : Formula) → is_guard (formula.And f g) ≡ true → (is_guard f ≡ true) × (is_guard g ≡ true)
-and_guards f g e = and_true (is_guard f) (is_guard g) (sym (ap is_guard (sym (formula.rolls-And f g)) ∙ fold-roll-Formula Bool guard_step (Formula-F.And f g)) ∙ e)
+and_guards f g e = and_parts (is_guard f) (is_guard g) (sym (ap is_guard (sym (formula.rolls-And f g)) ∙ fold-roll-Formula Bool guard_step (Formula-F.And f g)) ∙ e)
 
 abbrev AreGuards : List Formula → Type 0
 AreGuards gs = Each (λ g. is_guard g ≡ true) gs

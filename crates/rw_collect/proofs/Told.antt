@@ -1,5 +1,6 @@
 -- What the tests of the table tell where they refuse nothing.
 use Rattle.std.proofs.Common.{◌≡◌, ℕ, ◌+◌, Bool, true, false, if◌then◌else◌, ◌||◌, ◌&&◌, List, [], ◌∷◌, length, map, Option, Some, None, refl, sym, ap, ◌∙◌}
+use Rattle.std.proofs.lemmas.Bool.{and_from, and_parts, or_parts}
 use Rattle.std.specs.List.{list_all, slice_get}
 use Rattle.rw_terms.specs.declared.scope.Entry.{Entry}
 use Rattle.rw_terms.specs.declared.scope.Head.{Head}
@@ -12,7 +13,6 @@ use Rattle.rw_faults.specs.Faults.{first_of_names, unknown_in, predicate_unknown
 use Rattle.rw_faults.specs.Initial.{initial_outside}
 use Rattle.rw_faults.specs.Limits.{is_light, is_shallow, is_small}
 use Rattle.rw_faults.proofs.Apart.{faults_apart}
-use Rattle.rw_soundness.proofs.Bits.{left_false, right_false, both_true}
 use Rattle.rw_soundness.proofs.Binders.{small}
 use Rattle.rw_sequents.specs.declared.line.Cert.{Cert}
 use Rattle.rw_goals.specs.declared.library.Definition as definitions
@@ -27,7 +27,7 @@ use Rattle.rw_tree.specs.Users.{or_spot, beside_names, entry_user, root_names, t
 use Rattle.rw_tree.specs.Refusals.{unknown, ill_formed, is_ill_formed}
 use Rattle.rw_tree.specs.Entering.{heads_with, duplicate, body_part, entry_limit, define_refusal, ordered, order_refusal, in_use, lemma_unknown, next_part, ill_formed_from, number_behind, or_part, lemma_part, lemma_refusal}
 use Rattle.rw_tree.proofs.Same.{first_told}
-use Rattle.rw_collect.proofs.Bits.{and_true, first_none}
+use Rattle.rw_collect.proofs.Bits.{first_none}
 
 pub known_told : (o : Option (List ℕ)) → unknown o ≡ None → o ≡ None
 known_told None e = refl
@@ -42,7 +42,7 @@ pub sound_part : (scope : List Entry) (heads : List Head) (initials : List (List
     IsFormed scope heads f × (initial_outside initials f ≡ false)
 sound_part scope heads initials f within known formed =
     let both : (initial_outside initials f || is_ill_sorted scope heads f []) ≡ false = sym (ap (λ b. b && (initial_outside initials f || is_ill_sorted scope heads f [])) within) ∙ formed in
-    ((small f within, (faults_apart scope heads f []).1 (known, right_false (initial_outside initials f) (is_ill_sorted scope heads f []) both)), left_false (initial_outside initials f) (is_ill_sorted scope heads f []) both)
+    ((small f within, (faults_apart scope heads f []).1 (known, (or_parts (initial_outside initials f) (is_ill_sorted scope heads f []) both).1)), (or_parts (initial_outside initials f) (is_ill_sorted scope heads f []) both).0)
 
 duplicate_told : (clash : Bool) (x : List ℕ) (params : List Named) → duplicate clash x params ≡ None → clash ≡ false
 duplicate_told true x params e = absurd (cc)
@@ -71,7 +71,7 @@ define_told es d e =
     let limits = limit_told (is_light d.body) (is_shallow d.body) d.params d.name es third.1 in record {
       no_lemma = duplicate_told (has_lemma d.name es) d.name d.params second.0;
       kept =
-          (sound_part (scope_of_parameters d.params) (heads_with d es) [] d.body (both_true (is_light d.body) (is_shallow d.body) limits.0 limits.1)
+          (sound_part (scope_of_parameters d.params) (heads_with d es) [] d.body (and_from (is_light d.body) (is_shallow d.body) limits.0 limits.1)
           (known_told (unknown_in (scope_of_parameters d.params) (heads_with d es) d.body) first.0) (body_told (is_ill_formed (scope_of_parameters d.params) (heads_with d es) [] d.body) third.0)).0.1;
     }
 
@@ -96,9 +96,9 @@ each_kept scope heads k [] known formed light shallow = tt
 each_kept scope heads k (f ∷ fs) known formed light shallow =
     let names = first_none (unknown_in scope heads f) (first_of_names (map (unknown_in scope heads) fs)) known in
     let parts = part_told (is_ill_formed scope heads [] f) k (ill_formed_from scope heads (next_part k) fs) formed in
-    let lights = and_true (is_light f) (list_all is_light fs) light in
-    let shallows = and_true (is_shallow f) (list_all is_shallow fs) shallow in
-    ((sound_part scope heads [] f (both_true (is_light f) (is_shallow f) lights.0 shallows.0) names.0 parts.0).0.1, each_kept scope heads (next_part k) fs names.1 parts.1 lights.1 shallows.1)
+    let lights = and_parts (is_light f) (list_all is_light fs) light in
+    let shallows = and_parts (is_shallow f) (list_all is_shallow fs) shallow in
+    ((sound_part scope heads [] f (and_from (is_light f) (is_shallow f) lights.0 shallows.0) names.0 parts.0).0.1, each_kept scope heads (next_part k) fs names.1 parts.1 lights.1 shallows.1)
 
 -- an accepted lemma: its name is no definition's, and its formulas keep the rules
 pub record LemmaTold (es : List Item) (l : lemmas.Lemma) : Type 0 where
@@ -118,8 +118,8 @@ lemma_told es l e =
     let names = first_none (first_of_names (map (unknown_in scope (heads_of es)) left)) (first_of_names (map (unknown_in scope (heads_of es)) right)) (known_told (lemma_unknown (heads_of es) l) first.0) in
     let parts = or_part_told (ill_formed_from scope (heads_of es) 1 left) (ill_formed_from scope (heads_of es) (number_behind (length left)) right) (formed_told (lemma_part (heads_of es) l) third.0) in
     let limits = limit_told (list_all is_light left && list_all is_light right) (list_all is_shallow left && list_all is_shallow right) l.params l.name es third.1 in
-    let lights = and_true (list_all is_light left) (list_all is_light right) limits.0 in
-    let shallows = and_true (list_all is_shallow left) (list_all is_shallow right) limits.1 in record {
+    let lights = and_parts (list_all is_light left) (list_all is_light right) limits.0 in
+    let shallows = and_parts (list_all is_shallow left) (list_all is_shallow right) limits.1 in record {
       no_definition = duplicate_told (has_definition l.name es) l.name l.params second.0;
       left = each_kept scope (heads_of es) 1 left names.0 parts.0 lights.0 shallows.0;
       right = each_kept scope (heads_of es) (number_behind (length left)) right names.1 parts.1 lights.1 shallows.1;

@@ -16,13 +16,14 @@ use Rattle.rw_tree.specs.Anew.{library_of}
 use Rattle.rw_tree.specs.Uses.{IsClosed}
 use Rattle.rw_collect.specs.Code.{code_of}
 
--- what the specifications are read by: the definitions of the table; no procedures and modules are there yet
+-- what the specifications are read by: the definitions of the table; loops go by their variants; no procedures and modules are there
+-- yet
 abbrev pub heads_by : List Edit → Table
-heads_by l = record { library = definitions_of (library_of l); is_concrete = false; procs = []; modules = [] }
+heads_by l = record { library = definitions_of (library_of l); is_concrete = false; by_variant = true; procs = []; modules = [] }
 
 -- what the collected program is read by: no predicate stands in code
 abbrev pub table : Table
-table = record { library = []; is_concrete = true; procs = []; modules = [] }
+table = record { library = []; is_concrete = true; by_variant = false; procs = []; modules = [] }
 
 -- the names of the main tree: the globals
 abbrev pub scope_of : List Edit → List Entry

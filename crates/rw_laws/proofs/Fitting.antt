@@ -1,7 +1,6 @@
 -- What a law that fits makes, and how much.
-use Rattle.std.proofs.Common.{◌≡◌, ℕ, Bool, true, false, ◌&&◌, ◌++◌, length, nat_eq, nat_le, List, [], ◌∷◌, Option, Some, None, refl, sym, ap, ◌∙◌, true≢false}
-use Rattle.std.specs.Prelude.{not}
-use Rattle.std.proofs.lemmas.Bool.{eqb-true}
+use Rattle.std.proofs.Common.{◌≡◌, ℕ, Bool, true, false, ◌&&◌, ◌++◌, length, nat_le, List, [], ◌∷◌, Option, Some, None, refl, sym, ap}
+use Rattle.std.proofs.lemmas.Bool.{eqb-true, not-false}
 use Rattle.rw_terms.specs.declared.scope.Entry.{Entry}
 use Rattle.rw_terms.specs.declared.scope.Head.{Head}
 use Rattle.rw_terms.specs.declared.term.Term.{Term}
@@ -19,8 +18,8 @@ use Rattle.rw_programs.specs.declared.prog.Prog.TheViews as made
 use Rattle.rw_faults.specs.Limits.{is_small}
 use Rattle.rw_faults.specs.Initial.{is_twice}
 use Rattle.rw_subst.specs.Definedness.{definedness_of}
-use Rattle.rw_laws.specs.Derived.{unchanged_post, initial_pre, assigned_post, followed_post, pinned, pins_for, pinned_pre, contracted_post, expanded_post}
-use Rattle.rw_laws.specs.Causes.{cause_if, new_cause, seq_cause, assign_cause, seqcon_cause, con_cause, contract_cause, expand_cause}
+use Rattle.rw_derived.specs.Derived.{unchanged_post, initial_pre, assigned_post, followed_post, pinned, pins_for, pinned_pre, contracted_post, expanded_post}
+use Rattle.rw_derived.specs.Causes.{cause_if, new_cause, seq_cause, assign_cause, seqcon_cause, con_cause, contract_cause, expand_cause}
 use Rattle.rw_laws.specs.Laws.{fits, applied, law_with, law_of, skip_law, weaken_law, strengthen_law, assign_law, follow_law, seq_law, seqcon_law, con_law, contract_law, expand_law, FitsWith, Makes, skip_premises, weaken_premises, strengthen_premises, assign_premises, follow_premises, seq_premises, seqcon_premises, con_premises, contract_premises, expand_premises, pin}
 use Rattle.rw_laws.specs.Skeletons.{skeleton_of, HasPins}
 use Rattle.rw_laws.specs.Counts.{CountsAreExact}
@@ -73,18 +72,14 @@ passes : (b : Bool) (m : Misfit) (behind : Option Misfit) → cause_if b m behin
 passes true m behind e = absurd (cc)
 passes false m behind e = refl
 
-of_not : (b : Bool) → not b ≡ false → b ≡ true
-of_not true e = refl
-of_not false e = absurd (true≢false e)
-
 -- lists without a cause are of one length
 pub assign_long : (scope : List Entry) (w : Spec) (names : List (List ℕ)) (terms : List Term) → assign_cause scope w names terms ≡ None → length names ≡ length terms
 unfolding assign_cause
-assign_long scope w names terms e = eqb-true _ _ (of_not _ (passes _ _ _ e))
+assign_long scope w names terms e = eqb-true _ _ (not-false _ (passes _ _ _ e))
 
 pub seqcon_long : (scope : List Entry) (heads : List Head) (w : Spec) (names : List (List ℕ)) (f : Formula) → seqcon_cause scope heads w names f ≡ None → length w.frame ≡ length names
 unfolding seqcon_cause
-seqcon_long scope heads w names f e = sym (eqb-true _ _ (of_not _ (passes _ _ _ e)))
+seqcon_long scope heads w names f e = sym (eqb-true _ _ (not-false _ (passes _ _ _ e)))
 
 pub has_pins : (context : Context) (heads : List Head) (w : Spec) (s : BasicStep) (q : Premises) → Makes (law_of context heads w s) q → HasPins w s
 unfolding law_of seqcon_law

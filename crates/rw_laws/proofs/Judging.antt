@@ -1,7 +1,6 @@
 -- What a law says, from its tests.
-use Rattle.std.proofs.Common.{◌≡◌, Bool, true, false, ◌&&◌, Option, Some, None, inl, inr, refl, sym, ap, ◌∙◌, subst, true≢false}
+use Rattle.std.proofs.Common.{◌≡◌, Bool, true, false, Option, Some, None, inr, sym, ap, subst}
 use Rattle.rw_programs.specs.declared.prog.Prog.{Prog}
-use Rattle.rw_programs.specs.declared.applied.Applied.{Applied}
 use Rattle.rw_programs.specs.declared.applied.Misfit.{Misfit}
 use Rattle.rw_programs.specs.declared.applied.Misfit.TheVariants as cause
 use Rattle.rw_programs.specs.declared.applied.ApplyError.{ApplyError}
@@ -28,9 +27,6 @@ module _ (first : Option Misfit) (small twice : Bool) (s : Prog) (p : Premises) 
 
   pub refused_twice : (e : ApplyError) → first ≡ None → small ≡ true → twice ≡ true → e ≡ apply_error.Misfit cause.Alias → IsRefusal law e
   refused_twice e n f t is = inr (subst (λ l. MisfitsBy l (λ m. e ≡ apply_error.Misfit m)) (sym (λ i. law_with (n i) (f i) (t i) s p)) is)
-
-both_false_left : (a b : Bool) → a ≡ false → (a && b) ≡ false
-both_false_left a b e = ap (λ c. c && b) e
 
 pub obligations_of : (law : Law) (q : Premises) → Makes law q → FitsWith law (λ a. q.obligations ≡ a.obligations)
 obligations_of (fits a) q h = h.1

@@ -1,32 +1,29 @@
 -- What a basic law makes of a specification: a skeleton, the kids' specifications, and obligations; or the first cause why it does
 -- not fit.
-use Rattle.std.specs.Prelude.{◌≡◌, ℕ, Bool, true, false, ◌&&◌, ◌⊎◌, nat_le, length, List, [], ◌∷◌, ◌++◌, map, Option, Some, None}
+use Rattle.std.specs.Prelude.{◌≡◌, ℕ, Bool, true, false, ◌&&◌, ◌⊎◌, nat_le, length, List, [], ◌∷◌, ◌++◌, Option, Some, None}
 use Rattle.rw_terms.specs.declared.term.Term.{Term}
 use Rattle.rw_terms.specs.declared.term.Formula.{Formula}
 use Rattle.rw_terms.specs.declared.scope.Entry.{Entry}
 use Rattle.rw_terms.specs.declared.scope.Head.{Head}
-use Rattle.rw_terms.specs.declared.sequent.Sequent.{Sequent}
-use Rattle.rw_terms.specs.Naming.{names_of}
 use Rattle.rw_faults.specs.Limits.{is_small}
 use Rattle.rw_faults.specs.Initial.{is_twice}
 use Rattle.rw_subst.specs.Definedness.{definedness_of}
 use Rattle.rw_programs.specs.declared.prog.Spec.{Spec}
 use Rattle.rw_programs.specs.declared.prog.Prog.{Prog}
 use Rattle.rw_programs.specs.declared.prog.Prog.TheVariants as prog
-use Rattle.rw_programs.specs.declared.prog.Pin.{Pin}
 use Rattle.rw_programs.specs.declared.prog.Prog.TheViews as made
 use Rattle.rw_programs.specs.declared.applied.Context.{Context}
-use Rattle.rw_programs.specs.declared.applied.Child.{Child}
 use Rattle.rw_programs.specs.declared.applied.Applied.{Applied}
 use Rattle.rw_programs.specs.declared.applied.Misfit.{Misfit}
 use Rattle.rw_programs.specs.declared.applied.Misfit.TheVariants as cause
 use Rattle.rw_programs.specs.declared.applied.ApplyError.{ApplyError}
 use Rattle.rw_programs.specs.declared.applied.ApplyError.TheVariants as apply_error
+use Rattle.rw_derived.specs.Derived.{unchanged_post, initial_pre, assigned_post, followed_post, pinned, pins_for, with_constants, with_constant, pinned_pre, without, contracted_post, expanded_post}
+use Rattle.rw_derived.specs.Causes.{new_cause, seq_cause, assign_cause, seqcon_cause, con_cause, contract_cause, expand_cause}
+pub use Rattle.rw_derived.specs.Making.{sequent_over, kid, pin, IsLargeRefusal}
 use Rattle.rw_laws.specs.declared.step.BasicStep.{BasicStep}
 use Rattle.rw_laws.specs.declared.step.BasicStep.TheVariants as step
 use Rattle.rw_laws.specs.declared.premises.Premises.{Premises}
-use Rattle.rw_laws.specs.Derived.{unchanged_post, initial_pre, assigned_post, followed_post, pinned, pins_for, with_constants, with_constant, pinned_pre, without, contracted_post, expanded_post}
-use Rattle.rw_laws.specs.Causes.{new_cause, seq_cause, assign_cause, seqcon_cause, con_cause, contract_cause, expand_cause}
 
 -- what the law of a step says: it fits, or it does not by this cause
 pub data Law : Type 0 where
@@ -42,14 +39,6 @@ law_with (Some m) small twice skeleton p = misfit m
 law_with None false twice skeleton p = misfit cause.TooLarge
 law_with None true true skeleton p = misfit cause.Alias
 law_with None true false skeleton p = fits (applied skeleton p)
-
--- a sequent over a scope, with the names that are free in it
-abbrev pub sequent_over : List Entry → List Formula → List Formula → Sequent
-sequent_over scope left right = record { names = names_of scope left right; left = left; right = right }
-
--- a specification where its parent stands, with the parent's frame
-abbrev pub kid : Context → List (List ℕ) → Formula → Formula → Child
-kid context frame pre post = record { context = context; spec = record { frame = frame; pre = pre; post = post } }
 
 -- the context with another scope
 abbrev pub in_scope : Context → List Entry → Context
@@ -134,9 +123,6 @@ con_premises context w x t = record {
   obligations = [];
 }
 
-abbrev pub pin : List ℕ → Term → Pin
-pin x t = record { name = x; term = t }
-
 unfoldable pub con_law : Context → Spec → List ℕ → Term → Law
 con_law context w x t =
     law_with (con_cause context.scope x t) (is_small (pinned_pre w x t)) false (made.Con (pin x t ∷ []) (prog.Kid 1)) (con_premises context w x t)
@@ -188,7 +174,3 @@ IsRefusal law e = (e ≡ apply_error.Memory) ⊎ MisfitsBy law (λ m. e ≡ appl
 -- the law fits, and makes these kids and obligations
 abbrev pub Makes : Law → Premises → Type 0
 Makes law p = FitsWith law (λ a. (p.children ≡ a.children) × (p.obligations ≡ a.obligations))
-
--- want of memory, or a derived formula that passes a limit
-abbrev pub IsLargeRefusal : Formula → ApplyError → Type 0
-IsLargeRefusal f e = (e ≡ apply_error.Memory) ⊎ ((is_small f ≡ false) × (e ≡ apply_error.Misfit cause.TooLarge))

@@ -1,5 +1,3 @@
-pub mod Derived
-pub mod Causes
 pub mod Laws
 pub mod Counts
 pub mod Skeletons

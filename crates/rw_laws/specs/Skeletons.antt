@@ -6,7 +6,7 @@ use Rattle.rw_programs.specs.declared.prog.Prog.TheVariants as prog
 use Rattle.rw_programs.specs.declared.prog.Prog.TheViews as made
 use Rattle.rw_laws.specs.declared.step.BasicStep.{BasicStep}
 use Rattle.rw_laws.specs.declared.step.BasicStep.TheVariants as step
-use Rattle.rw_laws.specs.Derived.{pins_for}
+use Rattle.rw_derived.specs.Derived.{pins_for}
 use Rattle.rw_laws.specs.Laws.{pin}
 
 abbrev pub skeleton_of : Spec → BasicStep → Prog

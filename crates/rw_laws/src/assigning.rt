@@ -1,19 +1,20 @@
 //! The laws of assignments.
 
 ghost use Rattle.std.specs.Prelude.{◌≡◌, [], ◌∷◌, IfOk, IfErr};
-ghost use Rattle.rw_laws.specs.Causes.{assign_cause};
+ghost use Rattle.rw_derived.specs.Causes.{assign_cause};
 ghost use Rattle.rw_laws.specs.Laws.{sequent_over, assign_law, follow_law, Makes, IsRefusal};
 
-use crate::derived::{all_defined, assigned_post, followed_post};
-use crate::making::{alone, boxed, one_formula, one_kid, owed};
-use crate::parts::{any_ill_set, are_assignable, are_code_terms, have_initial};
 use crate::premises::Premises;
-use crate::refusing::{refuse, refuse_twice};
+use rw_derived::derived::{all_defined, assigned_post, followed_post};
+use rw_derived::making::{alone, one_formula, one_kid, owed};
+use rw_derived::parts::{any_ill_set, are_assignable, are_code_terms, have_initial};
+use rw_derived::refusing::{refuse, refuse_twice};
 use rw_faults::unknown::unknown_in_terms;
 use rw_items::{Boxed, Items};
 use rw_programs::applied::{ApplyError, Context, Misfit};
 use rw_programs::copying::copy_list;
 use rw_programs::prog::Spec;
+use rw_terms::copying::boxed;
 use rw_terms::name::Name;
 use rw_terms::scope::Scope;
 use rw_terms::sequent::Sequent;
@@ -83,7 +84,7 @@ pub fn follow(
 }
 
 // The first cause why the names cannot be set to the terms, but for limits and for names twice.
-#[tactic(auto, unfolding(crate::specs::Causes::assign_cause))]
+#[tactic(auto, unfolding(rw_derived::specs::Causes::assign_cause))]
 fn assign_cause(scope: &Scope, spec: &Spec, names: &[Name], terms: &[Term]) -> Option<Misfit>
     ensures { result ≡ assign_cause scope.now spec.now names.now terms.now }
 {

@@ -3,16 +3,17 @@
 ghost use Rattle.std.specs.Prelude.{◌≡◌, IfOk, IfErr};
 ghost use Rattle.rw_laws.specs.Laws.{con_law, Makes, IsRefusal};
 
-use crate::causes::con_cause;
-use crate::derived::{pinned_pre, with_constant};
-use crate::making::{boxed, one_kid};
 use crate::premises::Premises;
-use crate::refusing::refuse;
 use crate::sequences::inside;
+use rw_derived::causes::con_cause;
+use rw_derived::derived::{pinned_pre, with_constant};
+use rw_derived::making::one_kid;
+use rw_derived::refusing::refuse;
 use rw_items::Items;
 use rw_programs::applied::{ApplyError, Context};
 use rw_programs::copying::copy_list;
 use rw_programs::prog::Spec;
+use rw_terms::copying::boxed;
 use rw_terms::name::Name;
 use rw_terms::term::Term;
 use std::alloc::Global;

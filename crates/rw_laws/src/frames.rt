@@ -4,15 +4,16 @@ ghost use Rattle.std.specs.Prelude.{◌≡◌, ◌++◌, true, false, nat_le, le
 ghost use Rattle.rw_terms.specs.declared.term.Formula.{Formula};
 ghost use Rattle.rw_laws.specs.Laws.{contract_law, expand_law, Makes, IsRefusal};
 
-use crate::causes::{contract_cause, expand_cause};
-use crate::derived::{contracted_post, expanded_post, without};
-use crate::making::{boxed, one_kid};
 use crate::premises::Premises;
-use crate::refusing::{refuse, refuse_twice};
+use rw_derived::causes::{contract_cause, expand_cause};
+use rw_derived::derived::{contracted_post, expanded_post, without};
+use rw_derived::making::one_kid;
+use rw_derived::refusing::{refuse, refuse_twice};
 use rw_items::Items;
 use rw_programs::applied::{ApplyError, Context, Misfit};
 use rw_programs::copying::copy_list;
 use rw_programs::prog::Spec;
+use rw_terms::copying::boxed;
 use rw_terms::name::Name;
 use std::alloc::{AllocError, Global};
 

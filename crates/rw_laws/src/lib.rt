@@ -3,15 +3,10 @@
 
 pub mod apply;
 pub mod assigning;
-pub mod causes;
 pub mod constants;
 pub mod counts;
-pub mod derived;
 pub mod frames;
-pub mod making;
-pub mod parts;
 pub mod premises;
-pub mod refusing;
 pub mod sequences;
 pub mod single;
 pub mod skeletons;

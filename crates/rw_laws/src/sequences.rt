@@ -2,17 +2,18 @@
 
 ghost use Rattle.std.specs.Prelude.{◌≡◌, [], ◌∷◌, length, IfOk, IfErr};
 ghost use Rattle.rw_laws.specs.Laws.{in_scope, kid, seq_premises, seq_law, seqcon_law, Makes, IsRefusal};
-ghost use Rattle.rw_laws.specs.Derived.{pinned, with_constants};
+ghost use Rattle.rw_derived.specs.Derived.{pinned, with_constants};
 
-use crate::causes::{seq_cause, seqcon_cause};
-use crate::derived::{both_pinned, with_constants};
-use crate::making::{boxed, one_kid};
 use crate::premises::Premises;
-use crate::refusing::{refuse, refuse_large};
+use rw_derived::causes::{seq_cause, seqcon_cause};
+use rw_derived::derived::{both_pinned, with_constants};
+use rw_derived::making::one_kid;
+use rw_derived::refusing::{refuse, refuse_large};
 use rw_items::{Boxed, Items};
 use rw_programs::applied::{ApplyError, Child, Context};
 use rw_programs::copying::copy_list;
 use rw_programs::prog::Spec;
+use rw_terms::copying::boxed;
 use rw_terms::name::Name;
 use rw_terms::scope::{Head, Scope};
 use rw_terms::term::Formula;

@@ -3,15 +3,16 @@
 ghost use Rattle.std.specs.Prelude.{◌≡◌, IfOk, IfErr};
 ghost use Rattle.rw_laws.specs.Laws.{skip_law, weaken_premises, weaken_law, strengthen_law, Makes, IsRefusal};
 
-use crate::causes::new_cause;
-use crate::derived::{initial_pre, unchanged_post};
-use crate::making::{alone, boxed, one_formula, one_kid, owed, two};
 use crate::premises::Premises;
-use crate::refusing::{refuse, refuse_large};
+use rw_derived::causes::new_cause;
+use rw_derived::derived::{initial_pre, unchanged_post};
+use rw_derived::making::{alone, one_formula, one_kid, owed, two};
+use rw_derived::refusing::{refuse, refuse_large};
 use rw_items::Items;
 use rw_programs::applied::{ApplyError, Context};
 use rw_programs::copying::copy_list;
 use rw_programs::prog::Spec;
+use rw_terms::copying::boxed;
 use rw_terms::scope::Head;
 use rw_terms::term::Formula;
 use std::alloc::{AllocError, Global};

@@ -4,8 +4,8 @@ ghost use Rattle.std.specs.Prelude.{◌≡◌, IfOk};
 ghost use Rattle.rw_programs.specs.declared.prog.Prog.{Prog};
 ghost use Rattle.rw_laws.specs.Skeletons.{skeleton_of, HasPins};
 
-use crate::derived::{one_pin, pins_for};
 use crate::step::BasicStep;
+use rw_derived::derived::{one_pin, pins_for};
 use rw_items::Boxed;
 use rw_programs::copying::copy_list;
 use rw_programs::prog::{Prog, Spec};

@@ -1,5 +1,6 @@
 -- The law of alternations is sound.
 use Rattle.std.proofs.Common.{◌≡◌, ℕ, suc, true, ◌&&◌, None, List, [], ◌∷◌, map, sym, subst}
+use Rattle.std.proofs.lemmas.Bool.{and_parts}
 use Rattle.std.specs.List.{list_all}
 use Rattle.rw_terms.specs.declared.term.Formula.{Formula}
 use Rattle.rw_terms.specs.declared.scope.Head.{Head}
@@ -9,10 +10,11 @@ use Rattle.rw_subst.proofs.DefiningGuards.{definedness_of_guards}
 use Rattle.rw_programs.specs.declared.prog.Prog.{Prog}
 use Rattle.rw_programs.specs.declared.prog.Spec.{Spec}
 use Rattle.rw_programs.specs.declared.applied.Context.{Context}
-use Rattle.rw_programs.specs.State.{State, Fits, Holds, Within}
+use Rattle.rw_programs.specs.State.{State, Holds, Within}
 use Rattle.rw_programs.specs.Tables.{Table}
 use Rattle.rw_programs.specs.Meaning.{bodies, bodies_before, sure_by, ends_by}
 use Rattle.rw_programs.specs.Refine.{HasValues}
+use Rattle.rw_meaning.specs.Filling.{FitsIn}
 use Rattle.rw_faults.specs.Limits.{is_small}
 use Rattle.rw_loops.specs.Guards.{disj}
 use Rattle.rw_loops.specs.Code.{code_misfit}
@@ -22,20 +24,20 @@ use Rattle.rw_soundness.specs.Sound.{KidsMeet}
 use Rattle.rw_loops.specs.Sound.{IsSound}
 use Rattle.rw_loops.proofs.GuardLemmas.{definedness_of_disj, each_defined, some_holds, both_hold}
 use Rattle.rw_loops.proofs.Plain.{guard_of_code}
-use Rattle.rw_loops.proofs.Placed.{left_true, right_true, small_within, owed_holds, is_code}
+use Rattle.rw_loops.proofs.Placed.{small_within, owed_holds, is_code}
 use Rattle.rw_loops.proofs.Rows.{EachArm, if_sure, if_ends}
 
 module _ (context : Context) (heads : List Head) (w : Spec) (guards : List Formula) (no_misfit : code_misfit context.scope heads (disj guards) ≡ None) (within : is_within (if_made context w guards) ≡ true) where
   owed_within : list_all sequent_within (if_made context w guards).obligations ≡ true
   unfolding is_within
-  owed_within = left_true _ _ within
+  owed_within = (and_parts _ _ within).0
 
   disj_small : is_small (disj guards) ≡ true
   disj_small =
-      let second : ((is_small w.pre && true) && (is_small (disj guards) && true)) ≡ true = left_true _ _ (right_true _ _ owed_within) in
-      left_true _ _ (right_true (is_small w.pre && true) _ second)
+      let second : ((is_small w.pre && true) && (is_small (disj guards) && true)) ≡ true = (and_parts _ _ (and_parts _ _ owed_within).1).0 in
+      (and_parts _ _ (and_parts (is_small w.pre && true) _ second).1).0
 
-  module _ (fixed : Map) (E : Table) (p k : ℕ) (ks : ℕ → Prog) (s : State) (fits : Fits context.scope s) (has : HasValues context.scope fixed s) (h : Holds E.library w.pre s s) where
+  module _ (fixed : Map) (E : Table) (p k : ℕ) (ks : ℕ → Prog) (s : State) (fits : FitsIn E context.opened context.scope s) (has : HasValues context.scope fixed s) (h : Holds E.library w.pre s s) where
     abbrev Arms : (Formula → Prog → Type 0) → ℕ → List Formula → Type 0
     Arms = EachArm E (bodies E p k) (bodies_before E p) ks
 
@@ -51,11 +53,11 @@ module _ (context : Context) (heads : List Head) (w : Spec) (guards : List Formu
   pub if_sound : IsSound context w (if_made context w guards)
   if_sound fixed E p k ks valid kids s fits has h =
       let code = is_code context.scope heads (disj guards) no_misfit in
-      let conditions = owed_holds E.library context.scope w.pre _ valid.0 s fits h in
+      let conditions = owed_holds E.library context.scope w.pre _ valid.0 s fits.names h in
       let defined : GuardDefined s.own s.own (disj guards) =
       (definedness_of_guards context.scope heads (disj guards) (small_within (disj guards) disj_small, code.keeps) (guard_of_code (disj guards) code.guard) E.library s.own s.own fits.names fits.names).0
       (subst (λ f. Holds E.library f s s) (sym (definedness_of_disj context.scope guards)) conditions) in
-      let some = some_holds E.library s s guards (owed_holds E.library context.scope w.pre (disj guards) valid.1.0 s fits h) in (
+      let some = some_holds E.library s s guards (owed_holds E.library context.scope w.pre (disj guards) valid.1.0 s fits.names h) in (
         if_sure E (bodies E p k) (bodies_before E p) ks guards s (each_defined s.own s.own guards defined) some (sure_arms fixed E p k ks s fits has h guards 1 kids),
         λ t e. if_ends E (bodies E p k) (bodies_before E p) ks (Within w.frame s t × Holds E.library w.post s t) guards s t (end_arms fixed E p k ks s fits has h t guards 1 kids) e,
       )

@@ -9,7 +9,7 @@ use Rattle.rw_terms.specs.Scopes.{has_name, is_fresh}
 use Rattle.rw_terms.specs.Formed.{is_sort}
 use Rattle.rw_terms.specs.Rules.{keeps_rules}
 use Rattle.rw_terms.specs.Truth.{Definition}
-use Rattle.rw_terms.specs.State.{Value, HasSort, FitsEntry, State as Map, given}
+use Rattle.rw_terms.specs.State.{Value, HasSort, FitsEntry, State as Map, Fits as FitsMap, given}
 use Rattle.rw_subst.specs.declared.slot.Form.{Form}
 use Rattle.rw_subst.specs.declared.slot.Form.TheVariants as form
 use Rattle.rw_subst.specs.Looks.{in_states}
@@ -19,12 +19,12 @@ use Rattle.rw_programs.specs.declared.prog.Spec.{Spec}
 use Rattle.rw_programs.specs.declared.prog.Prog.TheVariants as prog
 use Rattle.rw_programs.specs.declared.applied.Context.{Context}
 use Rattle.rw_programs.specs.declared.applied.Misfit.TheVariants as cause
-use Rattle.rw_programs.specs.State.{Name, State, Fits, Holds, SameSort, Within, is_in, put, with_own}
+use Rattle.rw_programs.specs.State.{Name, State, Holds, SameSort, Within, is_in, put, with_own}
 use Rattle.rw_programs.specs.Scoped.{with_local, with_entries}
 use Rattle.rw_programs.specs.Tables.{Table}
 use Rattle.rw_programs.specs.Meaning.{Bodies, bodies, bodies_before, MayEnd, Sure, ends_by, sure_by}
 use Rattle.rw_programs.specs.Refine.{is_value, is_value_entry, HasValues}
-use Rattle.rw_meaning.specs.Filling.{fill}
+use Rattle.rw_meaning.specs.Filling.{fill, FitsIn}
 use Rattle.rw_meaning.proofs.Tests.{same_bytes, fresh_is}
 use Rattle.rw_meaning.proofs.Scopes.{Extends, extends}
 use Rattle.rw_meaning.proofs.Entering.{local_fits}
@@ -92,8 +92,8 @@ module _ (context : Context) (heads : List Head) (w : Spec) (x : Name) (sort : S
       go true i = absurd (there (ap (λ z. find (has_name z) scope) (same_bytes y x i) ∙ fresh))
       go false i = i
 
-  enter_fits : (s : State) (v : Value) → Fits scope s → HasSort v sort → Fits inner (with_own s (put x (Some v) s.own))
-  enter_fits s v fits hv = record { names = local_fits scope x sort inner (local_is scope x sort no_misfit).taken s.own v fits.names hv; parts = fits.parts }
+  enter_fits : (E : Table) (s : State) (v : Value) → FitsIn E context.opened scope s → HasSort v sort → FitsIn E context.opened inner (with_own s (put x (Some v) s.own))
+  enter_fits E s v fits hv = record { names = local_fits scope x sort inner (local_is scope x sort no_misfit).taken s.own v fits.names hv; parts = fits.parts }
 
   off_local : (m : Map) (v : Option Value) (y : Name) → bytes_eq y x ≡ false → put x v m y ≡ m y
   off_local m v y i = rw i refl
@@ -125,11 +125,11 @@ module _ (context : Context) (heads : List Head) (w : Spec) (x : Name) (sort : S
       agree form.Constant y h = ap given (e y (apart form.Constant y h))
 
   -- the local taken away, what is left is within the frame
-  leave_within : (s m : State) (v : Value) → Fits scope s → Within (w.frame ++ x ∷ []) (with_own s (put x (Some v) s.own)) m → Within w.frame s (with_own m (put x None m.own))
+  leave_within : (s m : State) (v : Value) → FitsMap scope s.own → Within (w.frame ++ x ∷ []) (with_own s (put x (Some v) s.own)) m → Within w.frame s (with_own m (put x None m.own))
   leave_within s m v fits h = record { off = λ y i. off y i (bytes_eq y x) refl; sorts = sorts; parts = h.parts }
     where
       off : (y : Name) → is_in y w.frame ≡ false → (b : Bool) → bytes_eq y x ≡ b → put x None m.own y ≡ s.own y
-      off y i true j = rw j (sym (nothing (find (has_name y) scope) (s.own y) (ap (λ z. find (has_name z) scope) (same_bytes y x j) ∙ fresh) (fits.names y)))
+      off y i true j = rw j (sym (nothing (find (has_name y) scope) (s.own y) (ap (λ z. find (has_name z) scope) (same_bytes y x j) ∙ fresh) (fits y)))
         where
           nothing : (o : Option Entry) (u : Option Value) → o ≡ None → FitsEntry o u → u ≡ None
           nothing None None e f = refl
@@ -149,7 +149,7 @@ module _ (context : Context) (heads : List Head) (w : Spec) (x : Name) (sort : S
     λ t e. let r = block_ends E (bodies E p k) (bodies_before E p) ks x sort s t e in
         let i = (better r.0 r.2).1 r.1 r.3 in
         subst (λ t. Within w.frame s t × Holds E.library w.post s t) (sym r.4) (
-          leave_within s r.1 r.0 fits i.0,
+          leave_within s r.1 r.0 fits.names i.0,
           kept E.library w.post (with_own s (put x (Some r.0) s.own)) r.1 s (with_own r.1 (put x None r.1.own)) placed.post.1
               (λ y j. off_local s.own (Some r.0) y j) (λ y j. sym (off_local r.1.own None y j)) i.1,
         ),
@@ -159,5 +159,5 @@ module _ (context : Context) (heads : List Head) (w : Spec) (x : Name) (sort : S
           × ((m : State) → MayEnd E p k (ks 1) (with_own s (put x (Some v) s.own)) m → Within (w.frame ++ x ∷ []) (with_own s (put x (Some v) s.own)) m × Holds E.library w.post (with_own s (put x (Some v) s.own)) m)
       better v hv =
           let s' : State = with_own s (put x (Some v) s.own) in
-          kids.0 s' (enter_fits s v fits hv) (enter_values fixed s v has)
+          kids.0 s' (enter_fits E s v fits hv) (enter_values fixed s v has)
           (kept E.library w.pre s s s' s' placed.pre.1 (λ y j. sym (off_local s.own (Some v) y j)) (λ y j. sym (off_local s.own (Some v) y j)) h)

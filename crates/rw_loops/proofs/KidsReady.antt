@@ -1,5 +1,6 @@
 -- What alternation, iteration and local blocks leave to their kids is well-formed where it stands.
 use Rattle.std.proofs.Common.{◌≡◌, pos, Bool, true, false, not, if◌then◌else◌, ◌||◌, ◌&&◌, is_some, List, [], ◌∷◌, ◌++◌, map, find, length, Option, Some, None, refl, sym, ap, ◌∙◌, subst, true≢false}
+use Rattle.std.proofs.lemmas.Bool.{and_parts, false_from_ne_true, or_from, or_left, or_parts, or_right}
 use Rattle.std.specs.Prelude.{bytes_eq, option_and_then, nat_le}
 use Rattle.std.specs.List.{list_all}
 use Rattle.rw_terms.specs.declared.scope.Entry.{Entry}
@@ -14,10 +15,10 @@ use Rattle.rw_terms.specs.declared.term.Formula.TheVariants as formula
 use Rattle.rw_terms.specs.declared.term.Formula.TheOpen.{Formula-F}
 use Rattle.rw_terms.specs.declared.term.Formula.TheViews.{roll-Formula}
 use Rattle.rw_terms.specs.declared.term.Formula.TheFolds.{map-Formula, fold-roll-Formula}
-use Rattle.rw_terms.specs.Scopes.{has_name, is_fresh}
+use Rattle.rw_terms.specs.Scopes.{has_name}
 use Rattle.rw_terms.specs.Sorts.{as_variable, variable_sort}
 use Rattle.rw_terms.specs.Formed.{is_sort}
-use Rattle.rw_terms.specs.Rules.{of_int, of_ints, sort_in, keeps_step, keeps_rules}
+use Rattle.rw_terms.specs.Rules.{of_ints, sort_in, keeps_step, keeps_rules}
 use Rattle.rw_terms.specs.Validity.{Each}
 use Rattle.rw_faults.specs.Limits.{is_small}
 use Rattle.rw_faults.specs.Initial.{is_listed, is_twice, term_outside, formula_outside_step, initial_outside}
@@ -29,9 +30,9 @@ use Rattle.rw_programs.specs.declared.applied.Context.{Context}
 use Rattle.rw_programs.specs.declared.applied.Child.{Child}
 use Rattle.rw_programs.specs.State.{Name, is_in}
 use Rattle.rw_programs.specs.Refine.{is_value, is_value_entry}
-use Rattle.rw_meaning.proofs.Tests.{same_bytes, bytes_same, left_true, right_true}
+use Rattle.rw_meaning.proofs.Tests.{same_bytes, bytes_same}
 use Rattle.rw_soundness.specs.Sound.{IsReady}
-use Rattle.rw_soundness.proofs.Bits.{left_false, right_false, both_false, either, is_false, listed_in, of_not}
+use Rattle.rw_soundness.proofs.Bits.{either, listed_in}
 use Rattle.rw_soundness.proofs.Binders.{small}
 use Rattle.rw_soundness.proofs.Conditions.{IsFine, fine, and_fine}
 use Rattle.rw_soundness.proofs.Replaced.{KeepsSorts, sort_kept}
@@ -43,10 +44,9 @@ use Rattle.rw_loops.specs.declared.step.LoopStep.TheVariants as step
 use Rattle.rw_loops.specs.Guards.{disj_with, disj}
 use Rattle.rw_loops.specs.Code.{code_misfit}
 use Rattle.rw_loops.specs.Limits.{sequent_within, child_within, is_within}
-use Rattle.rw_loops.specs.Laws.{law_of, if_kid, if_made, if_law, not_below_0, is_less, turn, loop_code, loop_post, do_kid, do_made, do_misfit, do_law, with_local, block_misfit, block_made, block_law}
-use Rattle.rw_loops.specs.Same.{same_formula}
+use Rattle.rw_loops.specs.Laws.{law_of, if_kid, if_made, if_law, not_below_0, is_less, turn, loop_code, loop_post, do_kid, do_made, do_misfit, do_law, block_misfit, block_made, block_law}
+use Rattle.rw_terms.specs.Same.{same_formula}
 use Rattle.rw_loops.specs.Sound.{KidsAreReady}
-use Rattle.rw_programs.specs.declared.applied.Misfit.{Misfit}
 use Rattle.rw_programs.specs.declared.applied.Misfit.TheVariants as cause
 use Rattle.rw_loops.proofs.Fitting.{fitting}
 use Rattle.rw_loops.proofs.Placed.{is_code}
@@ -70,19 +70,19 @@ module _ (scope : List Entry) (heads : List Head) (names : List Name) where
 
   two : (f g : Formula) → ((keeps_rules scope heads f [] && keeps_rules scope heads g []) ≡ true) × ((initial_outside names f || initial_outside names g) ≡ false) → Fine f × Fine g
   two f g h = (
-    (left_true (keeps_rules scope heads f []) (keeps_rules scope heads g []) h.0, left_false (initial_outside names f) (initial_outside names g) h.1),
-    (right_true (keeps_rules scope heads f []) (keeps_rules scope heads g []) h.0, right_false (initial_outside names f) (initial_outside names g) h.1),
+    ((and_parts (keeps_rules scope heads f []) (keeps_rules scope heads g []) h.0).0, (or_parts (initial_outside names f) (initial_outside names g) h.1).0),
+    ((and_parts (keeps_rules scope heads f []) (keeps_rules scope heads g []) h.0).1, (or_parts (initial_outside names f) (initial_outside names g) h.1).1),
   )
 
-  pub and_parts : (f g : Formula) → Fine (formula.And f g) → Fine f × Fine g
-  and_parts f g h = two f g (unrolled (Formula-F.And f g) (formula.And f g) (formula.rolls-And f g) h)
+  pub parts_of_and : (f g : Formula) → Fine (formula.And f g) → Fine f × Fine g
+  parts_of_and f g h = two f g (unrolled (Formula-F.And f g) (formula.And f g) (formula.rolls-And f g) h)
 
-  or_parts : (f g : Formula) → Fine (formula.Or f g) → Fine f × Fine g
-  or_parts f g h = two f g (unrolled (Formula-F.Or f g) (formula.Or f g) (formula.rolls-Or f g) h)
+  parts_of_or : (f g : Formula) → Fine (formula.Or f g) → Fine f × Fine g
+  parts_of_or f g h = two f g (unrolled (Formula-F.Or f g) (formula.Or f g) (formula.rolls-Or f g) h)
 
   disj_with_parts : (f : Formula) (gs : List Formula) → Fine (disj_with f gs) → Fine f × Each Fine gs
   disj_with_parts f [] h = (h, tt)
-  disj_with_parts f (g ∷ gs) h = let rest = disj_with_parts (formula.Or f g) gs h in let first = or_parts f g rest.0 in (first.0, (first.1, rest.1))
+  disj_with_parts f (g ∷ gs) h = let rest = disj_with_parts (formula.Or f g) gs h in let first = parts_of_or f g rest.0 in (first.0, (first.1, rest.1))
 
   pub disj_parts : (gs : List Formula) → Fine (disj gs) → Each Fine gs
   disj_parts [] h = tt
@@ -99,11 +99,11 @@ module _ (scope : List Entry) (heads : List Head) (names : List Name) where
   pub variant_is_int : (t : Term) → Fine (not_below_0 t) → (sort_in scope [] t ≡ Some Int) × (term_outside names t ≡ false)
   variant_is_int t h =
       let parts = unrolled (Formula-F.AtMost (v.Lit (pos 0)) t) (not_below_0 t) (formula.rolls-AtMost (v.Lit (pos 0)) t) h in
-      ((ints (sort_in scope [] (v.Lit (pos 0))) (sort_in scope [] t) parts.0).1, right_false (term_outside names (v.Lit (pos 0))) (term_outside names t) parts.1)
+      ((ints (sort_in scope [] (v.Lit (pos 0))) (sort_in scope [] t) parts.0).1, (or_parts (term_outside names (v.Lit (pos 0))) (term_outside names t) parts.1).1)
 
   pub less_fine : (t u : Term) → sort_in scope [] t ≡ Some Int → sort_in scope [] u ≡ Some Int → term_outside names t ≡ false → term_outside names u ≡ false → Fine (formula.Less t u)
   less_fine t u st su ot ou =
-      fine scope heads names (Formula-F.Less t u) (formula.Less t u) (formula.rolls-Less t u) (λ i. is_some (of_ints (st i) (su i))) (both_false (term_outside names t) (term_outside names u) ot ou)
+      fine scope heads names (Formula-F.Less t u) (formula.Less t u) (formula.rolls-Less t u) (λ i. is_some (of_ints (st i) (su i))) (or_from (term_outside names t) (term_outside names u) ot ou)
 
 -- a variable that became initial has its sort
 initial_sorts : (scope : List Entry) (names : List Name) → KeepsSorts scope scope (map to_initial names)
@@ -123,12 +123,8 @@ initial_leaves : (frame names : List Name) → ((x : Name) → is_in x names ≡
 initial_leaves frame [] into form.Variable x h = plain_outside frame form.Variable x
 initial_leaves frame [] into form.Initial x h = absurd (true≢false h)
 initial_leaves frame [] into form.Constant x h = plain_outside frame form.Constant x
-initial_leaves frame (y ∷ names) into form.Variable x h = one (bytes_eq x y) refl (initial_leaves frame names (λ z i. into z (later (bytes_eq z y) (is_in z names) i)) form.Variable x h)
+initial_leaves frame (y ∷ names) into form.Variable x h = one (bytes_eq x y) refl (initial_leaves frame names (λ z i. into z (or_right (bytes_eq z y) (is_in z names) i)) form.Variable x h)
   where
-    later : (a b : Bool) → b ≡ true → (a || b) ≡ true
-    later true b i = refl
-    later false b i = i
-
     listed : is_listed frame y ≡ true
     listed = into y (ap (λ b. b || is_in y names) (bytes_same y y refl))
 
@@ -138,11 +134,7 @@ initial_leaves frame (y ∷ names) into form.Variable x h = one (bytes_eq x y) r
     one false i rest = (λ j. term_outside frame (if (i j) then v.Init y else changed (map to_initial names) form.Variable x)) ∙ rest
 initial_leaves frame (y ∷ names) into form.Initial x h = absurd (true≢false h)
 initial_leaves frame (y ∷ names) into form.Constant x h =
-    initial_leaves frame names (λ z i. into z (later (bytes_eq z y) (is_in z names) i)) form.Constant x h
-  where
-    later : (a b : Bool) → b ≡ true → (a || b) ≡ true
-    later true b i = refl
-    later false b i = i
+    initial_leaves frame names (λ z i. into z (or_right (bytes_eq z y) (is_in z names) i)) form.Constant x h
 
 module _ (context : Context) (heads : List Head) (w : Spec) (ready : IsReady context.scope heads w) where
   abbrev scope : List Entry
@@ -159,10 +151,10 @@ module _ (context : Context) (heads : List Head) (w : Spec) (ready : IsReady con
   wide f h = (h.0, outside_more [] w.frame f (none_listed w.frame) h.1)
 
   pre_small : (k : Child) → child_within k ≡ true → is_small k.spec.pre ≡ true
-  pre_small k e = left_true (is_small k.spec.pre) (is_small k.spec.post) (right_true (nat_le (length k.spec.frame) 64) (is_small k.spec.pre && is_small k.spec.post) e)
+  pre_small k e = (and_parts (is_small k.spec.pre) (is_small k.spec.post) (and_parts (nat_le (length k.spec.frame) 64) (is_small k.spec.pre && is_small k.spec.post) e).1).0
 
   post_small : (k : Child) → child_within k ≡ true → is_small k.spec.post ≡ true
-  post_small k e = right_true (is_small k.spec.pre) (is_small k.spec.post) (right_true (nat_le (length k.spec.frame) 64) (is_small k.spec.pre && is_small k.spec.post) e)
+  post_small k e = (and_parts (is_small k.spec.pre) (is_small k.spec.post) (and_parts (nat_le (length k.spec.frame) 64) (is_small k.spec.pre && is_small k.spec.post) e).1).1
 
   if_ready : (g : Formula) → IsFine scope heads [] g → child_within (if_kid context w g) ≡ true → IsReadyKid (if_kid context w g)
   if_ready g h within =
@@ -179,8 +171,8 @@ module _ (context : Context) (heads : List Head) (w : Spec) (ready : IsReady con
   all_if : (gs : List Formula) → Each (IsFine scope heads []) gs → list_all child_within (map (if_kid context w) gs) ≡ true → Each IsReadyKid (map (if_kid context w) gs)
   all_if [] h within = tt
   all_if (g ∷ gs) h within = (
-    if_ready g h.0 (left_true (child_within (if_kid context w g)) (list_all child_within (map (if_kid context w) gs)) within),
-    all_if gs h.1 (right_true (child_within (if_kid context w g)) (list_all child_within (map (if_kid context w) gs)) within),
+    if_ready g h.0 (and_parts (child_within (if_kid context w g)) (list_all child_within (map (if_kid context w) gs)) within).0,
+    all_if gs h.1 (and_parts (child_within (if_kid context w g)) (list_all child_within (map (if_kid context w) gs)) within).1,
   )
 
   -- what each turn makes
@@ -210,8 +202,8 @@ module _ (context : Context) (heads : List Head) (w : Spec) (ready : IsReady con
   all_do : (t : Term) → IsFine scope heads [] (not_below_0 t) → (gs : List Formula) → Each (IsFine scope heads []) gs → list_all child_within (map (do_kid context w t) gs) ≡ true → Each IsReadyKid (map (do_kid context w t) gs)
   all_do t variant [] h within = tt
   all_do t variant (g ∷ gs) h within = (
-    do_ready t variant g h.0 (left_true (child_within (do_kid context w t g)) (list_all child_within (map (do_kid context w t) gs)) within),
-    all_do t variant gs h.1 (right_true (child_within (do_kid context w t g)) (list_all child_within (map (do_kid context w t) gs)) within),
+    do_ready t variant g h.0 (and_parts (child_within (do_kid context w t g)) (list_all child_within (map (do_kid context w t) gs)) within).0,
+    all_do t variant gs h.1 (and_parts (child_within (do_kid context w t g)) (list_all child_within (map (do_kid context w t) gs)) within).1,
   )
 
   module _ (x : Name) (sort : Sort) (fresh : find (has_name x) scope ≡ None) where
@@ -247,18 +239,14 @@ module _ (context : Context) (heads : List Head) (w : Spec) (ready : IsReady con
         regroup false b c = refl
 
     not_there : is_in x w.frame ≡ false
-    not_there = is_false (is_in x w.frame) (λ i. variable_found scope x (ready.variables x i) fresh)
+    not_there = false_from_ne_true (is_in x w.frame) (λ i. variable_found scope x (ready.variables x i) fresh)
 
     once : (frame : List Name) → is_twice frame ≡ false → is_in x frame ≡ false → is_twice (frame ++ x ∷ []) ≡ false
     once [] differ off = refl
     once (y ∷ frame) differ off =
-        both_false (is_listed (frame ++ x ∷ []) y) (is_twice (frame ++ x ∷ []))
-        (listed_in (frame ++ x ∷ []) y ∙ (last frame y ∙ both_false (is_in y frame) (bytes_eq y x) (sym (listed_in frame y) ∙ left_false (is_listed frame y) (is_twice frame) differ) (is_false (bytes_eq y x) (λ i. true≢false (sym (bytes_same x y (sym (same_bytes y x i))) ∙ left_false (bytes_eq x y) (is_in x frame) off)))))
-        (once frame (right_false (is_listed frame y) (is_twice frame) differ) (right_false (bytes_eq x y) (is_in x frame) off))
-
-    front : (a b : Bool) → a ≡ true → (a || b) ≡ true
-    front true b i = refl
-    front false b i = absurd (true≢false (sym i))
+        or_from (is_listed (frame ++ x ∷ []) y) (is_twice (frame ++ x ∷ []))
+        (listed_in (frame ++ x ∷ []) y ∙ (last frame y ∙ or_from (is_in y frame) (bytes_eq y x) (sym (listed_in frame y) ∙ (or_parts (is_listed frame y) (is_twice frame) differ).0) (false_from_ne_true (bytes_eq y x) (λ i. true≢false (sym (bytes_same x y (sym (same_bytes y x i))) ∙ (or_parts (bytes_eq x y) (is_in x frame) off).0)))))
+        (once frame (or_parts (is_listed frame y) (is_twice frame) differ).1 (or_parts (bytes_eq x y) (is_in x frame) off).1)
 
     block_ready : IsReady (scope ++ local ∷ []) heads (record { frame = w.frame ++ x ∷ []; pre = w.pre; post = w.post })
     block_ready = record {
@@ -270,7 +258,7 @@ module _ (context : Context) (heads : List Head) (w : Spec) (ready : IsReady con
           (λ same. ap (is_value (scope ++ local ∷ [])) (same_bytes y x same) ∙ ap is_value_entry here) (sym (last w.frame y) ∙ i);
       differ = once w.frame ready.differ not_there;
       no_initial = ready.no_initial;
-      initial = outside_more w.frame (w.frame ++ x ∷ []) w.post (λ y h. listed_in (w.frame ++ x ∷ []) y ∙ (last w.frame y ∙ front (is_in y w.frame) (bytes_eq y x) (sym (listed_in w.frame y) ∙ h))) ready.initial;
+      initial = outside_more w.frame (w.frame ++ x ∷ []) w.post (λ y h. listed_in (w.frame ++ x ∷ []) y ∙ (last w.frame y ∙ or_left (is_in y w.frame) (bytes_eq y x) (sym (listed_in w.frame y) ∙ h))) ready.initial;
     }
 
 -- the tests of a loop's shape and code
@@ -295,13 +283,13 @@ kids_are_ready context heads w (step.If guards) a ready e =
     let f = fitting (code_misfit context.scope heads (disj guards)) (if_made context w guards) a e in
     let code = is_code context.scope heads (disj guards) f.0 in
     subst (λ b. Each (λ c. IsReady c.context.scope heads c.spec) b.children) f.2
-    (all_if context heads w ready guards (disj_parts context.scope heads [] guards (code.keeps, code.initial_free)) (right_true (list_all sequent_within (if_made context w guards).obligations) _ f.1))
+    (all_if context heads w ready guards (disj_parts context.scope heads [] guards (code.keeps, code.initial_free)) (and_parts (list_all sequent_within (if_made context w guards).obligations) _ f.1).1)
 kids_are_ready context heads w (step.Do t guards) a ready e =
     let f = fitting (do_misfit context.scope heads w t guards) (do_made context w t guards) a e in
     let code = is_code context.scope heads (loop_code t guards) (loop_told context.scope heads w t guards f.0) in
-    let parts = and_parts context.scope heads [] (not_below_0 t) (disj guards) (code.keeps, code.initial_free) in
+    let parts = parts_of_and context.scope heads [] (not_below_0 t) (disj guards) (code.keeps, code.initial_free) in
     subst (λ b. Each (λ c. IsReady c.context.scope heads c.spec) b.children) f.2
-    (all_do context heads w ready t parts.0 guards (disj_parts context.scope heads [] guards parts.1) (right_true (list_all sequent_within (do_made context w t guards).obligations) _ f.1))
+    (all_do context heads w ready t parts.0 guards (disj_parts context.scope heads [] guards parts.1) (and_parts (list_all sequent_within (do_made context w t guards).obligations) _ f.1).1)
 kids_are_ready context heads w (step.Block x sort) a ready e =
     let f = fitting (block_misfit context.scope x sort) (block_made context w x sort) a e in
     subst (λ b. Each (λ c. IsReady c.context.scope heads c.spec) b.children) f.2 (block_ready context heads w ready x sort (local_told context.scope x sort f.0), tt)

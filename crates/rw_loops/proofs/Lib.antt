@@ -7,7 +7,6 @@ pub mod Judging
 pub mod Placed
 pub mod Plain
 pub mod Rows
-pub mod Samely
 pub mod Sizes
 pub mod SoundLaws
 pub mod Standing

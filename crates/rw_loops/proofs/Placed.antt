@@ -1,5 +1,6 @@
 -- What the laws use of a specification that stands in its place, and of what is valid over the names of a scope.
-use Rattle.std.proofs.Common.{◌≡◌, ◌≤◌, ◌<◌, ◌⊎◌, inl, inr, Bool, true, false, ◌&&◌, ◌||◌, not, is_some, if◌then◌else◌, List, [], ◌∷◌, find, Option, Some, None, refl, sym, ap, ◌∙◌, subst, true≢false, bytes_eq}
+use Rattle.std.proofs.Common.{◌≡◌, ◌≤◌, ◌<◌, ◌⊎◌, inl, inr, Bool, true, false, ◌||◌, not, is_some, if◌then◌else◌, List, [], ◌∷◌, find, Option, Some, None, refl, sym, ap, ◌∙◌, subst, true≢false, bytes_eq}
+use Rattle.std.proofs.lemmas.Bool.{and_from, and_parts, or_right}
 use Rattle.std.specs.Prelude.{option_and_then, leb}
 use Rattle.std.proofs.lemmas.Bool.Decides.{leb_tells}
 use Rattle.std.proofs.lemmas.Slice.Eq.{bytes_eq-Decides}
@@ -9,6 +10,7 @@ use Rattle.rw_terms.specs.declared.scope.Head.{Head}
 use Rattle.rw_terms.specs.Scopes.{has_name}
 use Rattle.rw_terms.specs.Size.{formula_weight, formula_depth}
 use Rattle.rw_terms.specs.Sorts.{as_variable, as_constant, variable_sort, constant_sort}
+use Rattle.rw_terms.specs.State.{Fits as FitsMap}
 use Rattle.rw_terms.specs.WellFormed.{IsSmallFormula, IsFormed}
 use Rattle.rw_terms.specs.Truth.{Definition}
 use Rattle.rw_terms.specs.Validity.{Valid}
@@ -20,10 +22,10 @@ use Rattle.rw_subst.specs.Stands.{stands_in}
 use Rattle.rw_subst.specs.Kinds.{is_allowed_as}
 use Rattle.rw_subst.proofs.KindLemmas.{formula_allowed}
 use Rattle.rw_faults.specs.Limits.{is_small}
-use Rattle.rw_faults.specs.Initial.{is_twice, initial_outside}
+use Rattle.rw_faults.specs.Initial.{initial_outside}
 use Rattle.rw_faults.specs.Faults.{is_ill_sorted, unknown_in}
 use Rattle.rw_faults.proofs.Apart.{faults_apart}
-use Rattle.rw_programs.specs.State.{Name, State, Fits, Holds, is_in}
+use Rattle.rw_programs.specs.State.{Name, State, Holds, is_in}
 use Rattle.rw_programs.specs.CodeTest.{is_guard}
 use Rattle.rw_programs.specs.Scoped.{are_variables}
 use Rattle.rw_programs.specs.declared.prog.Spec.{Spec}
@@ -35,31 +37,23 @@ use Rattle.rw_meaning.proofs.Tests.{bytes_same}
 use Rattle.rw_soundness.specs.Sound.{IsReady}
 use Rattle.rw_loops.specs.Code.{is_code_in, code_misfit}
 
-pub left_true : (a b : Bool) → (a && b) ≡ true → a ≡ true
-left_true true b e = refl
-left_true false b e = e
-
-pub right_true : (a b : Bool) → (a && b) ≡ true → b ≡ true
-right_true true b e = e
-right_true false b e = absurd (true≢false (sym e))
-
 -- what is small is within the limits
 pub small_within : (f : Formula) → is_small f ≡ true → IsSmallFormula f
 small_within f e = (light (leb_tells (formula_weight f) 1024), shallow (leb_tells (formula_depth f) 64))
   where
     light : ((leb (formula_weight f) 1024 ≡ true) × (formula_weight f ≤ 1024)) ⊎ ((leb (formula_weight f) 1024 ≡ false) × (1024 < formula_weight f)) → formula_weight f ≤ 1024
     light (inl h) = h.1
-    light (inr h) = absurd (true≢false (sym (left_true (leb (formula_weight f) 1024) (leb (formula_depth f) 64) e) ∙ h.0))
+    light (inr h) = absurd (true≢false (sym (and_parts (leb (formula_weight f) 1024) (leb (formula_depth f) 64) e).0 ∙ h.0))
 
     shallow : ((leb (formula_depth f) 64 ≡ true) × (formula_depth f ≤ 64)) ⊎ ((leb (formula_depth f) 64 ≡ false) × (64 < formula_depth f)) → formula_depth f ≤ 64
     shallow (inl h) = h.1
-    shallow (inr h) = absurd (true≢false (sym (right_true (leb (formula_weight f) 1024) (leb (formula_depth f) 64) e) ∙ h.0))
+    shallow (inr h) = absurd (true≢false (sym (and_parts (leb (formula_weight f) 1024) (leb (formula_depth f) 64) e).1 ∙ h.0))
 
 -- a valid obligation with one formula on each side
 pub owed_holds : (library : List Definition) (scope : List Entry) (pre f : Formula) → Valid library (sequent_over scope (pre ∷ []) (f ∷ []))
-    → (s : State) → Fits scope s → Holds library pre s s → Holds library f s s
+    → (s : State) → FitsMap scope s.own → Holds library pre s s → Holds library f s s
 owed_holds library scope pre f valid s fits h =
-    stable library f s s (λ n. valid_follows library scope (pre ∷ []) (f ∷ []) valid s.own s.own fits.names fits.names (h, tt) (n, tt))
+    stable library f s s (λ n. valid_follows library scope (pre ∷ []) (f ∷ []) valid s.own s.own fits fits (h, tt) (n, tt))
 
 -- What passes the tests of code: no initial variable, no predicate and no quantifier, and the rules of sorts are kept.
 pub record IsCode (scope : List Entry) (heads : List Head) (f : Formula) : Type 0 where
@@ -78,7 +72,7 @@ is_code scope heads f e = go (initial_outside [] f) refl (is_code_in scope f) re
     go false i false j c k o l e = absurd (cc)
     go false i true j true k o l e = absurd (cc)
     go false i true j false k (Some x) l e = absurd (cc)
-    go false i true j false k None l e = record { initial_free = i; guard = left_true _ _ j; keeps = (faults_apart scope heads f []).1 (l, k) }
+    go false i true j false k None l e = record { initial_free = i; guard = (and_parts _ _ j).0; keeps = (faults_apart scope heads f []).1 (l, k) }
 
 -- a name that is not in scope is no variable of it and no constant
 pub no_variable : (scope : List Entry) (x : Name) → find (has_name x) scope ≡ None → is_some (variable_sort scope x) ≡ false
@@ -99,10 +93,10 @@ not_in_scope scope heads f g x keeps fresh h = not_allowed scope g x fresh (form
 -- each of the names is a variable
 pub variable_in : (scope : List Entry) (names : List Name) (x : Name) → are_variables scope names ≡ true → is_in x names ≡ true → is_some (variable_sort scope x) ≡ true
 variable_in scope [] x e h = absurd (true≢false (sym h))
-variable_in scope (y ∷ names) x e h = go (bytes_eq x y) refl h (variable_in scope names x (right_true (is_some (variable_sort scope y)) (are_variables scope names) e))
+variable_in scope (y ∷ names) x e h = go (bytes_eq x y) refl h (variable_in scope names x (and_parts (is_some (variable_sort scope y)) (are_variables scope names) e).1)
   where
     go : (b : Bool) → bytes_eq x y ≡ b → (b || is_in x names) ≡ true → (is_in x names ≡ true → is_some (variable_sort scope x) ≡ true) → is_some (variable_sort scope x) ≡ true
-    go true i k rest = subst (λ z. is_some (variable_sort scope z) ≡ true) (sym ((bytes_eq-Decides x y).0 i)) (left_true (is_some (variable_sort scope y)) (are_variables scope names) e)
+    go true i k rest = subst (λ z. is_some (variable_sort scope z) ≡ true) (sym ((bytes_eq-Decides x y).0 i)) (and_parts (is_some (variable_sort scope y)) (are_variables scope names) e).0
     go false i k rest = rest k
 
 -- A specification that is well-formed where it stands, as the laws use it.
@@ -115,15 +109,7 @@ pub record IsPlaced (scope : List Entry) (heads : List Head) (w : Spec) : Type 0
 
 all_variables : (scope : List Entry) (names : List Name) → ((x : Name) → is_in x names ≡ true → is_some (variable_sort scope x) ≡ true) → are_variables scope names ≡ true
 all_variables scope [] h = refl
-all_variables scope (y ∷ names) h = both (is_some (variable_sort scope y)) (are_variables scope names) (h y (ap (λ b. b || is_in y names) (bytes_same y y refl))) (all_variables scope names (λ x i. h x (later (bytes_eq x y) (is_in x names) i)))
-  where
-    both : (a b : Bool) → a ≡ true → b ≡ true → (a && b) ≡ true
-    both true b e f = f
-    both false b e f = absurd (true≢false (sym e))
-
-    later : (a b : Bool) → b ≡ true → (a || b) ≡ true
-    later true b i = refl
-    later false b i = i
+all_variables scope (y ∷ names) h = and_from (is_some (variable_sort scope y)) (are_variables scope names) (h y (ap (λ b. b || is_in y names) (bytes_same y y refl))) (all_variables scope names (λ x i. h x (or_right (bytes_eq x y) (is_in x names) i)))
 
 pub placed : (scope : List Entry) (heads : List Head) (w : Spec) → IsReady scope heads w → IsPlaced scope heads w
 placed scope heads w ready = record {

@@ -4,11 +4,11 @@ use Rattle.rw_terms.specs.declared.term.Term.{Term}
 use Rattle.rw_terms.specs.declared.term.Formula.{Formula}
 use Rattle.rw_terms.specs.Defined.{GuardDefined}
 use Rattle.rw_terms.specs.Validity.{Each}
-use Rattle.rw_programs.specs.declared.prog.Prog.{Prog, If', Do'}
+use Rattle.rw_programs.specs.declared.prog.Prog.{Prog, If'}
 use Rattle.rw_programs.specs.declared.prog.Prog.TheVariants as prog
 use Rattle.rw_programs.specs.State.{State, Holds}
 use Rattle.rw_programs.specs.Tables.{Table}
-use Rattle.rw_programs.specs.Meaning.{Bodies, bodies, bodies_before, ends_by, sure_by, arm_ends, arms_sure, NoGuard, GuardsDefined, Chain}
+use Rattle.rw_programs.specs.Meaning.{Bodies, bodies, bodies_before, ends_by, sure_by, arm_ends, arms_sure, NoGuard, GuardsDefined, Chain, IsBound}
 use Rattle.rw_meaning.specs.Filling.{fill}
 use Rattle.rw_loops.specs.Laws.{arms_from}
 use Rattle.rw_loops.specs.Turns.{Turns}
@@ -82,11 +82,11 @@ module _ (E : Table) (calls before : Bodies) (ks : ℕ → Prog) where
   turn_ends C gs s t h e = ends C gs 1 s t h e
 
   -- the loop is sure where its turns are bounded, and at the end of each chain its guards are defined and each body is sure where its guard holds
-  pub do_sure : (v : Term) (gs : List Formula) (s : State) → (n : ℕ) → ((k : ℕ) (t : State) → Chain (Turn gs) k s t → k ≤ n)
+  pub do_sure : (v : Term) (gs : List Formula) (s : State) → (n : ℕ) → ((k : ℕ) (t : State) → Chain (Turn gs) k s t → k ≤ n) → IsBound E.by_variant v s n
       → ((k : ℕ) (t : State) → Chain (Turn gs) k s t → Each (GuardDefined t.own t.own) gs × EachArm (λ g c. Holds E.library g t t → sure_by E calls before c t) 1 gs)
       → sure_by E calls before (fill ks (prog.Do v (arms_from 1 gs))) s
   unfolding Rattle.rw_programs.specs.declared.prog.Prog.TheBlock.hidden-the_row-Arm-1 denote.Hole.Carrier.hidden
-  do_sure v gs s n bound at = ((n, bound), λ k t e. let h = at k t e in (defined gs 1 t h.0, sure gs 1 t h.1))
+  do_sure v gs s n bound is at = ((n, bound, is), λ k t e. let h = at k t e in (defined gs 1 t h.0, sure gs 1 t h.1))
 
   -- its ends are those of chains after which every guard fails
   pub do_ends : (v : Term) (gs : List Formula) (s t : State) → ends_by E calls before (fill ks (prog.Do v (arms_from 1 gs))) s t → ((n : ℕ) × Chain (Turn gs) n s t) × Each (Denies E.library t t) gs

@@ -1,5 +1,6 @@
 -- A comparison with a term that passes a limit passes it.
-use Rattle.std.proofs.Common.{◌≡◌, ℕ, ◌+◌, ◌<◌, ◌≤◌, ◌⊎◌, inl, inr, max, Bool, true, false, ◌&&◌, refl, sym, ap, ◌∙◌, subst, arith, true≢false, leb-true}
+use Rattle.std.proofs.Common.{◌≡◌, ℕ, ◌+◌, ◌<◌, ◌≤◌, ◌⊎◌, inl, inr, max, false, sym, ap, ◌∙◌, subst, arith, leb-true}
+use Rattle.std.proofs.lemmas.Bool.{and_parts, false_from_ne_true}
 use Rattle.rw_terms.specs.declared.term.Term.{Term}
 use Rattle.rw_terms.specs.declared.term.Formula.TheVariants as formula
 use Rattle.rw_terms.specs.declared.term.Formula.TheOpen.{Formula-F}
@@ -16,18 +17,6 @@ less_weight t u = ap formula_weight (sym (formula.rolls-Less t u)) ∙ fold-roll
 less_depth : (t u : Term) → formula_depth (formula.Less t u) ≡ max (term_depth t) (term_depth u) + 1
 less_depth t u = ap formula_depth (sym (formula.rolls-Less t u)) ∙ fold-roll-Formula _ depth_step (Formula-F.Less t u)
 
-left_true : (a b : Bool) → (a && b) ≡ true → a ≡ true
-left_true true b e = refl
-left_true false b e = e
-
-right_true : (a b : Bool) → (a && b) ≡ true → b ≡ true
-right_true true b e = e
-right_true false b e = absurd (true≢false (sym e))
-
-is_false : (b : Bool) → (b ≡ true → ⊥) → b ≡ false
-is_false true n = absurd (n refl)
-is_false false n = refl
-
 passed : (t u : Term) → formula_weight (formula.Less t u) ≤ 1024 → formula_depth (formula.Less t u) ≤ 64 → (1024 < term_weight u) ⊎ (64 < term_depth u) → ⊥
 passed t u light shallow (inl h) = let w = less_weight t u in omega (arith, w, light, h)
 passed t u light shallow (inr h) = let d = less_depth t u in omega (arith, d, shallow, h)
@@ -35,7 +24,7 @@ passed t u light shallow (inr h) = let d = less_depth t u in omega (arith, d, sh
 less_large : (t u : Term) → (1024 < term_weight u) ⊎ (64 < term_depth u) → is_small (formula.Less t u) ≡ false
 less_large t u h =
     let l = formula.Less t u in
-    is_false (is_small l) (λ e. passed t u (leb-true _ _ (left_true (is_light l) (is_shallow l) e)) (leb-true _ _ (right_true (is_light l) (is_shallow l) e)) h)
+    false_from_ne_true (is_small l) (λ e. passed t u (leb-true _ _ (and_parts (is_light l) (is_shallow l) e).0) (leb-true _ _ (and_parts (is_light l) (is_shallow l) e).1) h)
 
 -- a comparison with a term that is refused as too large
 pub refused : (t u : Term) (e : SubstError) (n : ℕ) → e ≡ TooLarge n → IsTermRefusal u e → is_small (formula.Less t u) ≡ false

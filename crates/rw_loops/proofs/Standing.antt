@@ -1,5 +1,6 @@
 -- Where a formula holds depends on the names that stand in it, each in its form, and on nothing else.
 use Rattle.std.proofs.Common.{◌≡◌, ℕ, suc, Bool, true, false, not, ◌||◌, List, [], ◌∷◌, map, slice_get, refl, sym, ap, ◌∙◌, subst, true≢false, reverse}
+use Rattle.std.proofs.lemmas.Bool.{or_parts}
 use Rattle.std.proofs.lemmas.Slice.Eq.{bytes_eq-Decides}
 use Rattle.rw_terms.specs.declared.term.Term.{Term}
 use Rattle.rw_terms.specs.declared.term.Term.TheVariants.{Bound}
@@ -48,14 +49,6 @@ either : (C : Type 0) (a b : Bool) → (a ≡ true → C) → (b ≡ true → C)
 either C true b f g e = f refl
 either C false b f g e = g e
 
-pub none_left : (a b : Bool) → (a || b) ≡ false → a ≡ false
-none_left true b e = absurd (true≢false e)
-none_left false b e = refl
-
-pub none_right : (a b : Bool) → (a || b) ≡ false → b ≡ false
-none_right true b e = absurd (true≢false e)
-none_right false b e = e
-
 not_false : (a : Bool) → not a ≡ false → a ≡ true
 not_false true e = refl
 not_false false e = absurd (true≢false e)
@@ -81,13 +74,13 @@ module _ (names : List (List ℕ)) (x : List ℕ) where
   under = map-Term ((t : Term) × TermClaim t) Term (λ e. e.0)
 
   two : (a b : (t : Term) × TermClaim t) → (has a.0 || has b.0) ≡ true → (out a.0 || out b.0) ≡ false → Listed
-  two a b h o = either Listed (has a.0) (has b.0) (λ k. a.1 k (none_left (out a.0) (out b.0) o)) (λ k. b.1 k (none_right (out a.0) (out b.0) o)) h
+  two a b h o = either Listed (has a.0) (has b.0) (λ k. a.1 k (or_parts (out a.0) (out b.0) o).0) (λ k. b.1 k (or_parts (out a.0) (out b.0) o).1) h
 
   many : (ts : List ((t : Term) × TermClaim t)) → stands_in_terms form.Initial x (map (λ e. e.0) ts) ≡ true → terms_outside names (map (λ e. e.0) ts) ≡ false → Listed
   many [] h o = absurd (true≢false (sym h))
   many (t ∷ ts) h o =
       let rest = map (λ (e : (t : Term) × TermClaim t). e.0) ts in
-      either Listed (has t.0) (stands_in_terms form.Initial x rest) (λ k. t.1 k (none_left (out t.0) (terms_outside names rest) o)) (λ k. many ts k (none_right (out t.0) (terms_outside names rest) o)) h
+      either Listed (has t.0) (stands_in_terms form.Initial x rest) (λ k. t.1 k (or_parts (out t.0) (terms_outside names rest) o).0) (λ k. many ts k (or_parts (out t.0) (terms_outside names rest) o).1) h
 
   term_layer : (y : TermLayer) → stands_step form.Initial x (map-Term Term Bool has (under y)) ≡ true → outside_step names (map-Term Term Bool out (under y)) ≡ false → Listed
   term_layer (Term-F.Lit n) h o = absurd (true≢false (sym h))
@@ -103,9 +96,9 @@ module _ (names : List (List ℕ)) (x : List ℕ) where
   term_layer (Term-F.Mod a b) h o = two a b h o
   term_layer (Term-F.Read a b) h o = two a b h o
   term_layer (Term-F.Put a b c) h o =
-      let front = none_left (out a.0 || out b.0) (out c.0) o in
-      either Listed (has a.0) (has b.0 || has c.0) (λ k. a.1 k (none_left (out a.0) (out b.0) front))
-      (either Listed (has b.0) (has c.0) (λ k. b.1 k (none_right (out a.0) (out b.0) front)) (λ k. c.1 k (none_right (out a.0 || out b.0) (out c.0) o))) h
+      let front = (or_parts (out a.0 || out b.0) (out c.0) o).0 in
+      either Listed (has a.0) (has b.0 || has c.0) (λ k. a.1 k (or_parts (out a.0) (out b.0) front).0)
+      (either Listed (has b.0) (has c.0) (λ k. b.1 k (or_parts (out a.0) (out b.0) front).1) (λ k. c.1 k (or_parts (out a.0 || out b.0) (out c.0) o).1)) h
   term_layer (Term-F.Fun f args) h o = many args h o
 
   term_at : (y : TermLayer) → TermClaim (roll-Term (under y))
@@ -120,7 +113,7 @@ module _ (names : List (List ℕ)) (x : List ℕ) where
   all_terms : (ts : List Term) → stands_in_terms form.Initial x ts ≡ true → terms_outside names ts ≡ false → Listed
   all_terms [] h o = absurd (true≢false (sym h))
   all_terms (t ∷ ts) h o =
-      either Listed (has t) (stands_in_terms form.Initial x ts) (λ k. term_listed t k (none_left (out t) (terms_outside names ts) o)) (λ k. all_terms ts k (none_right (out t) (terms_outside names ts) o)) h
+      either Listed (has t) (stands_in_terms form.Initial x ts) (λ k. term_listed t k (or_parts (out t) (terms_outside names ts) o).0) (λ k. all_terms ts k (or_parts (out t) (terms_outside names ts) o).1) h
 
   abbrev stands : Formula → Bool
   stands = stands_in form.Initial x
@@ -139,7 +132,7 @@ module _ (names : List (List ℕ)) (x : List ℕ) where
 
   both : (f g : (f : Formula) × Claim f) → (stands f.0 || stands g.0) ≡ true → (outside f.0 || outside g.0) ≡ false → Listed
   both f g h o =
-      either Listed (stands f.0) (stands g.0) (λ k. f.1 k (none_left (outside f.0) (outside g.0) o)) (λ k. g.1 k (none_right (outside f.0) (outside g.0) o)) h
+      either Listed (stands f.0) (stands g.0) (λ k. f.1 k (or_parts (outside f.0) (outside g.0) o).0) (λ k. g.1 k (or_parts (outside f.0) (outside g.0) o).1) h
 
   layer : (y : Layer) → formula_stands_step form.Initial x (map-Formula Formula Bool stands (parts y)) ≡ true → formula_outside_step names (map-Formula Formula Bool outside (parts y)) ≡ false → Listed
   layer Formula-F.True h o = absurd (true≢false (sym h))

@@ -1,5 +1,6 @@
 -- The variant of a loop before and after a turn.
 use Rattle.std.proofs.Common.{◌≡◌, Bool, true, false, ◌&&◌, ◌||◌, is_some, if◌then◌else◌, List, [], ◌∷◌, map, Some, refl, sym, ap, ◌∙◌, true≢false, bytes_eq}
+use Rattle.std.proofs.lemmas.Bool.{and_parts}
 use Rattle.std.proofs.lemmas.Slice.Eq.{bytes_eq-Decides}
 use Rattle.rw_terms.specs.declared.scope.Entry.{Entry}
 use Rattle.rw_terms.specs.declared.term.Term.{Term}
@@ -21,7 +22,6 @@ use Rattle.rw_subst.proofs.Replacing.{replacement_in_states, initial_changes_are
 use Rattle.rw_faults.specs.Initial.{term_outside}
 use Rattle.rw_programs.specs.State.{Name, State, Within, is_in}
 use Rattle.rw_programs.specs.Scoped.{are_variables}
-use Rattle.rw_loops.proofs.Placed.{left_true, right_true}
 use Rattle.rw_loops.proofs.Standing.{term_listed, SameBinders, binders_fit}
 
 -- look-ups that agree on what stands in a term give it one value
@@ -67,7 +67,7 @@ module _ (s t : Map) where
 -- the slots of a frame of variables are allowed
 slots_allowed : (scope : List Entry) (w : List Name) → are_variables scope w ≡ true → are_allowed scope (map (λ c. c.slot) (map to_initial w)) ≡ true
 slots_allowed scope [] h = refl
-slots_allowed scope (y ∷ w) h = ap (λ b. b && are_allowed scope (map (λ c. c.slot) (map to_initial w))) (left_true _ _ h) ∙ slots_allowed scope w (right_true (is_some (variable_sort scope y)) _ h)
+slots_allowed scope (y ∷ w) h = ap (λ b. b && are_allowed scope (map (λ c. c.slot) (map to_initial w))) (and_parts _ _ h).0 ∙ slots_allowed scope w (and_parts (is_some (variable_sort scope y)) _ h).1
 
 -- a term with the frame's names as initial variables has after a change within the frame the value that it had before
 pub value_before : (scope : List Entry) (w : List Name) (v : Term) → are_variables scope w ≡ true → sort_in scope [] v ≡ Some Int → (s t : State) → Within w s t

@@ -11,7 +11,7 @@ use Rattle.rw_terms.specs.declared.scope.Kind.TheVariants as kind
 use Rattle.rw_terms.specs.Scopes.{is_fresh}
 use Rattle.rw_terms.specs.Formed.{is_sort}
 use Rattle.rw_subst.specs.Replaced.{replaced_term, to_initial}
-use Rattle.rw_loops.specs.Same.{same_formula}
+use Rattle.rw_terms.specs.Same.{same_formula}
 use Rattle.rw_programs.specs.State.{Name}
 use Rattle.rw_programs.specs.declared.prog.Arm.{Arm}
 use Rattle.rw_programs.specs.declared.prog.Spec.{Spec}

@@ -3,7 +3,6 @@ pub mod Guards
 pub mod Code
 pub mod Limits
 pub mod Laws
-pub mod Same
 pub mod Skeletons
 pub mod Sound
 pub mod Turns

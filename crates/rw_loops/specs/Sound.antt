@@ -9,19 +9,19 @@ use Rattle.rw_programs.specs.declared.prog.Prog.TheVariants as prog
 use Rattle.rw_programs.specs.declared.applied.Context.{Context}
 use Rattle.rw_programs.specs.declared.applied.Applied.{Applied}
 use Rattle.rw_programs.specs.Tables.{Table}
-use Rattle.rw_programs.specs.Refine.{RefinesGiven}
-use Rattle.rw_meaning.specs.Filling.{fill}
+use Rattle.rw_meaning.specs.Filling.{fill, RefinesIn}
 use Rattle.rw_laws.specs.Laws.{fits}
 use Rattle.rw_soundness.specs.Sound.{IsReady, KidsMeet}
 use Rattle.rw_loops.specs.declared.step.LoopStep.{LoopStep}
 use Rattle.rw_loops.specs.Laws.{law_of}
 
 -- Whatever the values of the names of kind value are, and the table, the place and the number of own calls: where all
--- obligations are valid and what is put for each kid refines its specification, the filled skeleton refines the parent.
+-- obligations are valid and what is put for each kid refines its specification in its context, the filled skeleton refines the
+-- parent in its own.
 abbrev pub IsSound : Context → Spec → Applied → Type 0
 IsSound context w a =
     (fixed : Map) (E : Table) (p k : ℕ) (ks : ℕ → Prog) → Each (Valid E.library) a.obligations → KidsMeet fixed E p k ks 1 a.children →
-    RefinesGiven fixed context.scope E p k (prog.Spec w) E p k (fill ks a.skeleton)
+    RefinesIn fixed context.opened context.scope E p k (prog.Spec w) (fill ks a.skeleton)
 
 -- each law is sound
 abbrev pub LawsAreSound : Type 0

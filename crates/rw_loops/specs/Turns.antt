@@ -1,5 +1,5 @@
 -- The turns of a loop.
-use Rattle.std.specs.Prelude.{◌≡◌, ℕ, ◌≤◌, ℤ, pos, negsuc, List, []}
+use Rattle.std.specs.Prelude.{◌≡◌, ℕ, ◌≤◌, List, []}
 use Rattle.rw_terms.specs.declared.term.Term.{Term}
 use Rattle.rw_terms.specs.declared.term.Formula.{Formula}
 use Rattle.rw_terms.specs.declared.scope.Head.{Head}
@@ -9,11 +9,11 @@ use Rattle.rw_programs.specs.declared.prog.Prog.{Prog, Do'}
 use Rattle.rw_programs.specs.declared.prog.Spec.{Spec}
 use Rattle.rw_programs.specs.declared.applied.Context.{Context}
 use Rattle.rw_programs.specs.declared.applied.Applied.{Applied}
-use Rattle.rw_programs.specs.State.{State, Fits, Holds}
+use Rattle.rw_programs.specs.State.{State, Holds}
 use Rattle.rw_programs.specs.Tables.{Table}
-use Rattle.rw_programs.specs.Meaning.{bodies, bodies_before, arm_ends, Chain}
+use Rattle.rw_programs.specs.Meaning.{bodies, bodies_before, arm_ends, Chain, at_least_0}
 use Rattle.rw_programs.specs.Refine.{HasValues}
-use Rattle.rw_meaning.specs.Filling.{fill}
+use Rattle.rw_meaning.specs.Filling.{fill, FitsIn}
 use Rattle.rw_laws.specs.Laws.{fits}
 use Rattle.rw_loops.specs.declared.step.LoopStep.TheVariants as step
 use Rattle.rw_loops.specs.Laws.{law_of}
@@ -24,16 +24,11 @@ abbrev pub Turns : Table → (p k : ℕ) → Prog → ℕ → State → State �
 Turns E p k (Do' variant shape arms) n s t = Chain (arm_ends E (bodies E p k) (bodies_before E p) arms) n s t
 Turns E p k _ n s t = ⊥
 
--- the larger of 0 and the number
-abbrev pub at_least_0 : ℤ → ℕ
-at_least_0 (pos n) = n
-at_least_0 (negsuc n) = 0
-
--- Take a loop each of whose bodies refines its kid's specification. From a state that fits and meets the invariant no chain has
--- more turns than the larger of 0 and the value of the variant there.
+-- Take a loop each of whose bodies refines its kid's specification in its context. From a state that fits the loop's context and
+-- meets the invariant no chain has more turns than the larger of 0 and the value of the variant there.
 abbrev pub TurnsWithinVariant : Type 0
 TurnsWithinVariant =
     (context : Context) (heads : List Head) (w : Spec) (v : Term) (guards : List Formula) (a : Applied) → IsReady context.scope heads w → law_of context heads w (step.Do v guards) ≡ fits a →
     (fixed : Map) (E : Table) (p k : ℕ) (ks : ℕ → Prog) → KidsMeet fixed E p k ks 1 a.children →
-    (s t : State) (n : ℕ) → Fits context.scope s → HasValues context.scope fixed s → Holds E.library w.pre s s →
+    (s t : State) (n : ℕ) → FitsIn E context.opened context.scope s → HasValues context.scope fixed s → Holds E.library w.pre s s →
     Turns E p k (fill ks a.skeleton) n s t → n ≤ at_least_0 (whole (value s.own s.own [] v))

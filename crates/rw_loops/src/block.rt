@@ -6,14 +6,15 @@ ghost use Rattle.rw_loops.specs.Laws.{with_local, block_premises, block_law};
 
 use crate::causes::block_misfit;
 use crate::limits::refuse_large;
+use rw_derived::making::one_kid;
+use rw_derived::refusing::refuse;
 use rw_items::Items;
-use rw_laws::making::{boxed, one_kid};
 use rw_laws::premises::Premises;
-use rw_laws::refusing::refuse;
 use rw_laws::sequences::inside;
 use rw_programs::applied::{ApplyError, Context};
 use rw_programs::copying::copy_list;
 use rw_programs::prog::Spec;
+use rw_terms::copying::boxed;
 use rw_terms::name::Name;
 use rw_terms::scope::{Entry, Kind, Scope};
 use rw_terms::term::Sort;

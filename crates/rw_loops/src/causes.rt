@@ -2,7 +2,7 @@
 
 ghost use Rattle.std.specs.Prelude.{◌≡◌, IfOk};
 ghost use Rattle.rw_loops.specs.Guards.{disj};
-ghost use Rattle.rw_loops.specs.Same.{same_formula};
+ghost use Rattle.rw_terms.specs.Same.{same_formula};
 ghost use Rattle.rw_loops.specs.Code.{is_module_kind, speaks_of_module, is_code_in, code_misfit};
 ghost use Rattle.rw_loops.specs.Laws.{not_below_0, loop_post, loop_code, do_misfit, block_misfit};
 
@@ -11,10 +11,10 @@ use rw_faults::faults::is_ill_sorted;
 use rw_faults::initial::initial_outside;
 use rw_faults::unknown::unknown_in;
 use rw_items::Boxed;
-use rw_laws::making::boxed;
 use rw_programs::applied::Misfit;
 use rw_programs::code::is_guard;
 use rw_programs::prog::Spec;
+use rw_terms::copying::boxed;
 use rw_terms::formed::is_sort;
 use rw_terms::mention::free_in;
 use rw_terms::name::Name;

@@ -6,11 +6,11 @@ ghost use Rattle.rw_subst.specs.Definedness.{guard_definedness};
 ghost use Rattle.rw_laws.specs.Laws.{IsLargeRefusal};
 ghost use Rattle.rw_loops.specs.Guards.{disj, guards_definedness};
 
+use rw_derived::refusing::too_large;
 use rw_items::Boxed;
-use rw_laws::making::boxed;
-use rw_laws::refusing::too_large;
 use rw_programs::applied::ApplyError;
 use rw_subst::defined::defined_guard;
+use rw_terms::copying::boxed;
 use rw_terms::scope::Scope;
 use rw_terms::term::Formula;
 use std::alloc::{AllocError, Global};

@@ -14,15 +14,16 @@ use crate::alternation::both;
 use crate::causes::{do_misfit, not_below_0};
 use crate::limits::refuse_large;
 use crate::owing::owed_defined;
+use rw_derived::making::one_kid;
+use rw_derived::refusing::refuse;
 use rw_items::{Boxed, Items};
-use rw_laws::making::{boxed, one_kid};
 use rw_laws::premises::Premises;
-use rw_laws::refusing::refuse;
 use rw_programs::applied::{ApplyError, Child, Context, Misfit};
 use rw_programs::copying::copy_list;
 use rw_programs::prog::Spec;
 use rw_subst::error::SubstError;
 use rw_subst::replace::term_to_initial;
+use rw_terms::copying::boxed;
 use rw_terms::name::Name;
 use rw_terms::scope::Head;
 use rw_terms::term::{Formula, Term};
@@ -99,7 +100,7 @@ fn do_kid(
 }
 
 // What each turn keeps and makes.
-#[tactic(auto, using(rw_laws::proofs::Largeness::right_large))]
+#[tactic(auto, using(rw_derived::proofs::Largeness::right_large))]
 fn turn(alloc: Global, spec: &Spec, variant: &Term) -> Result<Boxed<Formula>, ApplyError>
     ensures made { IfOk result (λ f. f ≡ turn spec.now variant.now) }
     ensures err { IfErr result (IsLargeRefusal (turn spec.now variant.now)) }

@@ -5,7 +5,7 @@ ghost use Rattle.rw_loops.specs.Sound.{LawsAreSound, KidsAreReady};
 ghost use Rattle.rw_loops.specs.Turns.{TurnsWithinVariant};
 
 /// Where all obligations are valid and what is put for each kid refines the kid's specification in its context, the filled skeleton
-/// refines the parent: for any table, place and number of own calls, and any programs.
+/// refines the parent in its own: for any table, place and number of own calls, any programs, and whatever modules are opened.
 pub fn soundness()
     ensures { LawsAreSound }
 {}
@@ -15,8 +15,8 @@ pub fn kids()
     ensures { KidsAreReady }
 {}
 
-/// Take a loop each of whose bodies refines its kid's specification. From a state that fits and meets the invariant, no chain has more
-/// turns than the larger of 0 and the value of the variant there.
+/// Take a loop each of whose bodies refines its kid's specification in its context. From a state that fits the loop's context and meets
+/// the invariant, no chain has more turns than the larger of 0 and the value of the variant there.
 pub fn turns()
     ensures { TurnsWithinVariant }
 {}

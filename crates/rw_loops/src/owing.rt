@@ -5,8 +5,8 @@ ghost use Rattle.rw_laws.specs.Laws.{sequent_over, IsLargeRefusal};
 ghost use Rattle.rw_loops.specs.Guards.{disj, guards_definedness};
 
 use crate::guards::{all_defined, any_guard};
+use rw_derived::making::{alone, one_formula, owed};
 use rw_items::Items;
-use rw_laws::making::{alone, one_formula, owed};
 use rw_programs::applied::ApplyError;
 use rw_terms::scope::Scope;
 use rw_terms::sequent::Sequent;

@@ -1,19 +1,20 @@
 -- A program that is well scoped, and whose calls end in states that fit, ends in states that fit.
 use Rattle.std.proofs.Common.{◌≡◌, refl, sym, subst, ℕ, zero, suc, Bool, true, List, Option, Some, None, inl, inr, true≢false}
+use Rattle.std.proofs.lemmas.Bool.{and_parts}
 use Rattle.rw_terms.specs.declared.scope.Entry.{Entry}
 use Rattle.rw_terms.specs.declared.term.Formula.{Formula}
+use Rattle.rw_terms.specs.State.{Fits as FitsMap}
 use Rattle.rw_programs.specs.declared.prog.ModCode.{ModCode}
 use Rattle.rw_programs.specs.declared.prog.Spec.{Spec as Promise}
 use Rattle.rw_programs.specs.declared.prog.Prog.{Prog, Spec, Kid, Skip, Assign, If', Do', Call, OpCall, Row_of-Arm, end_of-Arm, more_of-Arm}
 use Rattle.rw_programs.specs.Made.{Seq, Block, Con, ModBlock}
-use Rattle.rw_programs.specs.State.{Name, State, Fits, empty, alone, with_own, put, put_all}
+use Rattle.rw_programs.specs.State.{Name, State, empty, with_own, put, put_all}
 use Rattle.rw_programs.specs.Tables.{Table, find_module, pin_names, pin_terms, hold}
 use Rattle.rw_programs.specs.Meaning.{Bodies, arm_ends, arms_sure, GuardsDefined, Chain, values}
 use Rattle.rw_programs.specs.Scoped.{with_local, with_pins, with_entries, with_module, if_some, prog_scoped, row_scoped}
 use Rattle.rw_programs.proofs.Frames.{within_fits}
 use Rattle.rw_meaning.specs.Filling.{WhereSome, PartsFit, FitsIn, EachPart, EachArm, KeepsBy, CallFitsBy, brings_of}
 use Rattle.rw_meaning.proofs.Options.{some_use₂}
-use Rattle.rw_meaning.proofs.Tests.{left_true, right_true}
 use Rattle.rw_meaning.proofs.Entering.{assigned_fits, local_fits, local_gone, pins_fit, pins_gone}
 use Rattle.rw_meaning.proofs.Modules.{module_enters, module_leaves}
 
@@ -26,8 +27,8 @@ pub where_is : {A : Type 0} (o : Option A) (a : A) (P : A → Type 0) → o ≡ 
 where_is o a P e h = subst (λ o. WhereSome o P) e h
 
 -- states of the same maps fit alike
-pub own_fits : (E : Table) (opened : List Name) (scope : List Entry) (s t : State) → FitsIn E opened scope s → Fits scope (alone t.own) → t.part ≡ s.part → FitsIn E opened scope t
-own_fits E opened scope s t f n e = record { names = n.names; parts = subst (PartsFit E.is_concrete E.modules opened) (sym e) f.parts }
+pub own_fits : (E : Table) (opened : List Name) (scope : List Entry) (s t : State) → FitsIn E opened scope s → FitsMap scope t.own → t.part ≡ s.part → FitsIn E opened scope t
+own_fits E opened scope s t f n e = record { names = n; parts = subst (PartsFit E.is_concrete E.modules opened) (sym e) f.parts }
 
 module _ (E : Table) (calls before : Bodies) (brings : Name → List Entry) where
   abbrev Fit : List Name → List Entry → State → Type 0
@@ -44,9 +45,7 @@ module _ (E : Table) (calls before : Bodies) (brings : Name → List Entry) wher
 
   spec_keeps : (opened : List Name) (scope : List Entry) (w : Promise) → Keeps opened scope (Spec w)
   spec_keeps opened scope w s t f h e =
-      own_fits E opened scope s t f
-      (within_fits scope w.frame (alone s.own) (alone t.own) (record { names = f.names; parts = refl }) (record { off = e.0.off; sorts = e.0.sorts; parts = refl }))
-      e.0.parts
+      own_fits E opened scope s t f (within_fits {others = s.part} scope w.frame s t (record { names = f.names; parts = refl }) e.0).names e.0.parts
 
   chain_keeps : {m : _} (opened : List Name) (scope : List Entry) (arms : Row_of-Arm m) → ArmsKeep opened scope arms → (s : State) → Fit opened scope s
       → ((k : ℕ) (t : State) → Chain (arm_ends E calls before arms) k s t → GuardsDefined arms t × arms_sure E calls before arms t)
@@ -90,11 +89,11 @@ module _ (E : Table) (calls before : Bodies) (brings : Name → List Entry) wher
     ends_fit opened scope (Assign names terms) ok fit = λ s t f h e.
         subst (Fit opened scope) (sym e) (record { names = assigned_fits scope s f.names names terms ok; parts = f.parts })
     ends_fit opened scope (Seq c d) ok fit = λ s t f h e.
-        let m = ends_fit opened scope c (left_true _ _ ok) fit.1 s e.0 f h.0 e.1 in
-        ends_fit opened scope d (right_true _ _ ok) fit.2 e.0 t m (h.1 e.0 e.1) e.2
+        let m = ends_fit opened scope c (and_parts _ _ ok).0 fit.1 s e.0 f h.0 e.1 in
+        ends_fit opened scope d (and_parts _ _ ok).1 fit.2 e.0 t m (h.1 e.0 e.1) e.2
     ends_fit opened scope (If' shape arms) ok fit = λ s t f h e. row_fits opened scope arms ok fit.1 s t f h.2 e
     ends_fit opened scope (Do' variant shape arms) ok fit = λ s t f h e.
-        chain_keeps opened scope arms (row_fits opened scope arms (right_true _ _ ok) fit.1) s f h.1 e.0.0 t e.0.1
+        chain_keeps opened scope arms (row_fits opened scope arms (and_parts _ _ ok).1 fit.1) s f h.1 e.0.0 t e.0.1
     ends_fit opened scope (Block x sort c) ok fit =
         let r = some_tested (λ inner. prog_scoped brings opened inner c) (with_local scope x sort) ok in
         block_keeps opened scope r.0 x sort c r.1 (ends_fit opened r.0 c r.2 (where_is (with_local scope x sort) r.0 (λ inner. EachPart brings CallFits opened inner c) r.1 fit.1))
@@ -113,5 +112,5 @@ module _ (E : Table) (calls before : Bodies) (brings : Name → List Entry) wher
     pub row_fits : {m : _} (opened : List Name) (scope : List Entry) (arms : Row_of-Arm m) → row_scoped brings opened scope arms ≡ true → EachArm brings CallFits opened scope arms → ArmsKeep opened scope arms
     row_fits opened scope end_of-Arm ok fit = λ s t f h e. absurd e
     row_fits opened scope (more_of-Arm g c rest) ok fit =
-        let both = right_true _ _ ok in
-        arm_keeps opened scope g c rest (ends_fit opened scope c (left_true _ _ both) fit.0) (row_fits opened scope rest (right_true _ _ both) fit.1)
+        let both = (and_parts _ _ ok).1 in
+        arm_keeps opened scope g c rest (ends_fit opened scope c (and_parts _ _ both).0 fit.0) (row_fits opened scope rest (and_parts _ _ both).1 fit.1)

@@ -1,6 +1,6 @@
 -- What a program does to states that fit: assignments, locals and constants keep to the scope.
 use Rattle.std.proofs.Common.{◌≡◌, refl, sym, ap, ◌∙◌, subst, ℕ, suc, Bool, true, false, List, [], ◌∷◌, map, find, length, Option, Some, None, true≢false}
-use Rattle.std.proofs.lemmas.Bool.{eqb-true}
+use Rattle.std.proofs.lemmas.Bool.{eqb-true, and_parts}
 use Rattle.std.specs.Prelude.{bytes_eq, option_and_then, if◌then◌else◌}
 use Rattle.rw_terms.specs.declared.scope.Entry.{Entry}
 use Rattle.rw_terms.specs.declared.scope.Kind.{Kind}
@@ -20,7 +20,7 @@ use Rattle.rw_programs.specs.State.{Name, State, empty, put, put_all}
 use Rattle.rw_programs.specs.Tables.{pin_names, pin_terms}
 use Rattle.rw_programs.specs.Meaning.{values}
 use Rattle.rw_programs.specs.Scoped.{each_set, are_set, with_entry, with_entries, with_local, with_pin, with_pins}
-use Rattle.rw_meaning.proofs.Tests.{left_true, right_true, same_bytes, bytes_same, and_then_is}
+use Rattle.rw_meaning.proofs.Tests.{same_bytes, bytes_same, and_then_is}
 use Rattle.rw_meaning.proofs.Scopes.{put_fits, taken_fits}
 
 same_sort_is : (a b : Sort) → same_sort a b ≡ true → a ≡ b
@@ -56,13 +56,13 @@ module _ (scope : List Entry) (s : State) (fits : FitsMap scope s.own) where
   pub set_fits : (names : List Name) (terms : List Term) → length names ≡ length terms → each_set scope names terms ≡ true → FitsMap scope (put_all names (values terms s) s.own)
   set_fits [] terms long e = fits
   set_fits (x ∷ names) [] long e = absurd (cc)
-  set_fits (x ∷ names) (t ∷ terms) long e = λ y. at y (bytes_eq y x) refl (set_fits names terms (shorter (length names) (length terms) long) (right_true _ _ e) y)
+  set_fits (x ∷ names) (t ∷ terms) long e = λ y. at y (bytes_eq y x) refl (set_fits names terms (shorter (length names) (length terms) long) (and_parts _ _ e).1 y)
     where
       shorter : (a b : ℕ) → suc a ≡ suc b → a ≡ b
       shorter a b q = cc
 
       here : FitsEntry (find (has_name x) scope) (Some (value s.own s.own [] t))
-      here = variable_takes (find (has_name x) scope) (sort_in scope [] t) _ (valued t) (left_true _ _ e)
+      here = variable_takes (find (has_name x) scope) (sort_in scope [] t) _ (valued t) (and_parts _ _ e).0
 
       at : (y : Name) (b : Bool) → bytes_eq y x ≡ b → FitsEntry (find (has_name y) scope) (put_all names (values terms s) s.own y)
           → FitsEntry (find (has_name y) scope) (put x (Some (value s.own s.own [] t)) (put_all names (values terms s) s.own) y)
@@ -70,7 +70,7 @@ module _ (scope : List Entry) (s : State) (fits : FitsMap scope s.own) where
       at y false i rest = rw i rest
 
   pub assigned_fits : (names : List Name) (terms : List Term) → are_set scope names terms ≡ true → FitsMap scope (put_all names (values terms s) s.own)
-  assigned_fits names terms e = set_fits names terms (eqb-true _ _ (left_true _ _ e)) (right_true _ _ e)
+  assigned_fits names terms e = set_fits names terms (eqb-true _ _ (and_parts _ _ e).0) (and_parts _ _ e).1
 
 -- the value of one entry fits a scope of that entry alone
 alone_fits : (e : Entry) (v : Value) → HasSort v e.sort → FitsMap (e ∷ []) (put e.name (Some v) empty)
@@ -83,14 +83,14 @@ alone_fits e v h y = go (bytes_eq e.name y) refl (bytes_eq y e.name) refl
     go false i true j = absurd (true≢false (sym (bytes_same e.name y (sym (same_bytes y e.name j))) ∙ i))
 
 -- a scope with one entry is one with a list of one
-one_entry : (scope : List Entry) (e : Entry) (inner : List Entry) → with_entry scope e ≡ Some inner → with_entries scope (e ∷ []) ≡ Some inner
+pub one_entry : (scope : List Entry) (e : Entry) (inner : List Entry) → with_entry scope e ≡ Some inner → with_entries scope (e ∷ []) ≡ Some inner
 one_entry scope e inner h = go (with_entry scope e) h
   where
     go : (o : Option (List Entry)) → o ≡ Some inner → option_and_then (λ i. with_entries i []) o ≡ Some inner
     go None h = absurd (cc)
     go (Some a) h = h
 
-local_entry : (scope : List Entry) (x : Name) (sort : Sort) (inner : List Entry) → with_local scope x sort ≡ Some inner
+pub local_entry : (scope : List Entry) (x : Name) (sort : Sort) (inner : List Entry) → with_local scope x sort ≡ Some inner
     → with_entry scope (record { name = x; sort = sort; kind = kind.Local }) ≡ Some inner
 local_entry scope x sort inner h = go (is_sort sort) h
   where

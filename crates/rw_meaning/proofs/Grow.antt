@@ -1,12 +1,14 @@
 -- More that may be called: more ends, sure at more states, and no new ends where it was sure.
-use Rattle.std.proofs.Common.{◌≡◌, sym, subst, ℕ, zero, suc, ◌+◌, ◌≤◌, ◌<◌, List, ◌⊎◌, inl, inr, arith, lt_irrefl, ⊎_elim, ◌-◌}
+use Rattle.std.proofs.Common.{◌≡◌, sym, subst, ℕ, zero, suc, ◌+◌, ◌≤◌, ◌<◌, List, Some, ◌⊎◌, inl, inr, arith, lt_irrefl, ⊎_elim, ◌-◌}
 use Rattle.rw_terms.specs.declared.term.Term.{Term}
 use Rattle.rw_terms.specs.declared.term.Formula.{Formula}
+use Rattle.rw_programs.specs.declared.prog.ModCode.{ModCode}
+use Rattle.rw_programs.specs.declared.prog.ProcCode.{ProcCode}
 use Rattle.rw_programs.specs.declared.prog.Prog.{Prog, Spec, Kid, Skip, Assign, If', Do', Call, OpCall, Row_of-Arm, end_of-Arm, more_of-Arm}
 use Rattle.rw_programs.specs.Made.{Seq, Block, Con, ModBlock}
 use Rattle.rw_programs.specs.State.{Name, State}
 use Rattle.rw_programs.specs.Tables.{Table, find_module, find_proc}
-use Rattle.rw_programs.specs.Meaning.{Bodies, either, own_bodies, bodies_before, bodies, ends_by, sure_by, arm_ends, arms_sure, NoGuard, GuardsDefined, Chain, MayEnd, Sure}
+use Rattle.rw_programs.specs.Meaning.{Bodies, either, own_bodies, bodies_before, bodies, ends_by, sure_by, arm_ends, arms_sure, NoGuard, GuardsDefined, Chain, IsBound, MayEnd, Sure}
 use Rattle.rw_meaning.proofs.Options.{some_map, some_map₂}
 
 -- what three facts say that the second is the first, grown
@@ -22,7 +24,15 @@ chain_map : (R Q : State → State → Type 0) → ((s t : State) → R s t → 
 chain_map R Q f zero s t e = e
 chain_map R Q f (suc k) s t e = (e.0, chain_map R Q f k s e.0 e.1, f e.0 t e.2)
 
-module _ (E : Table) (a b before before' : Bodies) (g : BodiesGrow a b) (gb : BodiesGrow before before') where
+-- so of the bodies of the table's procedures
+abbrev pub ProcsGrow : Table → Bodies → Bodies → Type 0
+ProcsGrow E a b = (f : Name) (e : ProcCode) → find_proc f E.procs ≡ Some e → Grows (a.sure e.place e.body) (b.sure e.place e.body) (a.ends e.place e.body) (b.ends e.place e.body)
+
+-- and of all bodies at the places of its modules
+abbrev pub ModulesGrow : Table → Bodies → Bodies → Type 0
+ModulesGrow E a b = (m : Name) (d : ModCode) → find_module m E.modules ≡ Some d → (c : Prog) → Grows (a.sure d.place c) (b.sure d.place c) (a.ends d.place c) (b.ends d.place c)
+
+module _ (E : Table) (a b before before' : Bodies) (g : ProcsGrow E a b) (gb : ModulesGrow E before before') where
   abbrev ProgGrows : Prog → Type 0
   ProgGrows c = Grows (sure_by E a before c) (sure_by E b before' c) (ends_by E a before c) (ends_by E b before' c)
 
@@ -43,19 +53,19 @@ module _ (E : Table) (a b before before' : Bodies) (g : BodiesGrow a b) (gb : Bo
   }
 
   -- the same of a loop over the arms
-  abbrev LoopSure : (Bodies → Bodies → {m : _} → Row_of-Arm m → State → Type 0)
-  LoopSure calls before c s =
-      ((n : ℕ) × ((k : ℕ) (t : State) → Chain (arm_ends E calls before c) k s t → k ≤ n))
+  abbrev LoopSure : (Bodies → Bodies → {m : _} → Term → Row_of-Arm m → State → Type 0)
+  LoopSure calls before variant c s =
+      ((n : ℕ) × ((k : ℕ) (t : State) → Chain (arm_ends E calls before c) k s t → k ≤ n) × IsBound E.by_variant variant s n)
       × ((k : ℕ) (t : State) → Chain (arm_ends E calls before c) k s t → GuardsDefined c t × arms_sure E calls before c t)
 
   abbrev LoopEnds : (Bodies → Bodies → {m : _} → Row_of-Arm m → State → State → Type 0)
   LoopEnds calls before c s t = ((n : ℕ) × Chain (arm_ends E calls before c) n s t) × NoGuard E.library c t
 
-  loop_grows : {m : _} (c : Row_of-Arm m) → ArmsGrow c → Grows (LoopSure a before c) (LoopSure b before' c) (LoopEnds a before c) (LoopEnds b before' c)
-  loop_grows c gc = record {
+  loop_grows : {m : _} (variant : Term) (c : Row_of-Arm m) → ArmsGrow c → Grows (LoopSure a before variant c) (LoopSure b before' variant c) (LoopEnds a before c) (LoopEnds b before' c)
+  loop_grows variant c gc = record {
     sure = λ s h.
         let same = chain_same c gc s (λ k t e. (h.1 k t e).1) in (
-          (h.0.0, λ k t e. h.0.1 k t (same k t e)),
+          (h.0.0, (λ k t e. h.0.1 k t (same k t e)), h.0.2),
           λ k t e. let f = h.1 k t (same k t e) in (f.0, gc.sure t f.1),
         );
     ends = λ s t e. ((e.0.0, chain_map _ _ gc.ends e.0.0 s t e.0.1), e.1);
@@ -64,25 +74,25 @@ module _ (E : Table) (a b before before' : Bodies) (g : BodiesGrow a b) (gb : Bo
 
   call_grows : (f : Name) (args : List Term) (names : List Name) → ProgGrows (Call f args names)
   call_grows f args names = record {
-    sure = λ s h. (h.0, some_map (find_proc f E.procs) _ _ (λ e is hs i bi. (g e.place e.body).sure i (hs i bi)) h.1);
-    ends = λ s t x. some_map (find_proc f E.procs) _ _ (λ e is y. (y.0, y.1, y.2, (g e.place e.body).ends y.0 y.1 y.3, y.4)) x;
-    same = λ s t h x. some_map₂ (find_proc f E.procs) _ _ _ (λ e is hs y. (y.0, y.1, y.2, (g e.place e.body).same y.0 y.1 (hs y.0 y.2) y.3, y.4)) h.1 x;
+    sure = λ s h. (h.0, some_map (find_proc f E.procs) _ _ (λ e is hs i bi. (g f e is).sure i (hs i bi)) h.1);
+    ends = λ s t x. some_map (find_proc f E.procs) _ _ (λ e is y. (y.0, y.1, y.2, (g f e is).ends y.0 y.1 y.3, y.4)) x;
+    same = λ s t h x. some_map₂ (find_proc f E.procs) _ _ _ (λ e is hs y. (y.0, y.1, y.2, (g f e is).same y.0 y.1 (hs y.0 y.2) y.3, y.4)) h.1 x;
   }
 
   op_grows : (m o : Name) (args : List Term) (names : List Name) → ProgGrows (OpCall m o args names)
   op_grows m o args names = record {
-    sure = λ s h. (h.0, some_map (find_module m E.modules) _ _ (λ d is. some_map (find_proc o d.operations) _ _ (λ e ie hs i bi. (gb d.place e.body).sure i (hs i bi))) h.1);
-    ends = λ s t x. some_map (find_module m E.modules) _ _ (λ d is. some_map (find_proc o d.operations) _ _ (λ e ie y. (y.0, y.1, y.2, (gb d.place e.body).ends y.0 y.1 y.3, y.4))) x;
-    same = λ s t h x. some_map₂ (find_module m E.modules) _ _ _ (λ d is. some_map₂ (find_proc o d.operations) _ _ _ (λ e ie hs y. (y.0, y.1, y.2, (gb d.place e.body).same y.0 y.1 (hs y.0 y.2) y.3, y.4))) h.1 x;
+    sure = λ s h. (h.0, some_map (find_module m E.modules) _ _ (λ d is. some_map (find_proc o d.operations) _ _ (λ e ie hs i bi. (gb m d is e.body).sure i (hs i bi))) h.1);
+    ends = λ s t x. some_map (find_module m E.modules) _ _ (λ d is. some_map (find_proc o d.operations) _ _ (λ e ie y. (y.0, y.1, y.2, (gb m d is e.body).ends y.0 y.1 y.3, y.4))) x;
+    same = λ s t h x. some_map₂ (find_module m E.modules) _ _ _ (λ d is. some_map₂ (find_proc o d.operations) _ _ _ (λ e ie hs y. (y.0, y.1, y.2, (gb m d is e.body).same y.0 y.1 (hs y.0 y.2) y.3, y.4))) h.1 x;
   }
 
   mod_grows : (m : Name) (c : Prog) → ProgGrows c → ProgGrows (ModBlock m c)
   mod_grows m c gc = record {
     sure = λ s h. some_map (find_module m E.modules) _ _ (λ d is hs vs hv. let st = hs vs hv in
-        ((gb d.place d.start).sure _ st.0, λ i ei. gc.sure _ (st.1 i ((gb d.place d.start).same _ i st.0 ei)))) h;
-    ends = λ s t x. some_map (find_module m E.modules) _ _ (λ d is y. (y.0, y.1, y.2, y.3, (gb d.place d.start).ends _ y.1 y.4, gc.ends _ y.2 y.5, y.6)) x;
+        ((gb m d is d.start).sure _ st.0, λ i ei. gc.sure _ (st.1 i ((gb m d is d.start).same _ i st.0 ei)))) h;
+    ends = λ s t x. some_map (find_module m E.modules) _ _ (λ d is y. (y.0, y.1, y.2, y.3, (gb m d is d.start).ends _ y.1 y.4, gc.ends _ y.2 y.5, y.6)) x;
     same = λ s t h x. some_map₂ (find_module m E.modules) _ _ _ (λ d is hs y. let st = hs y.0 y.3 in
-        let e0 = (gb d.place d.start).same _ y.1 st.0 y.4 in (y.0, y.1, y.2, y.3, e0, gc.same _ y.2 (st.1 y.1 e0) y.5, y.6)) h x;
+        let e0 = (gb m d is d.start).same _ y.1 st.0 y.4 in (y.0, y.1, y.2, y.3, e0, gc.same _ y.2 (st.1 y.1 e0) y.5, y.6)) h x;
   }
 
   arm_grows : {m : _} (f : Formula) (c : Prog) (rest : Row_of-Arm m) → ProgGrows c → ArmsGrow rest → ArmsGrow (more_of-Arm f c rest)
@@ -105,7 +115,7 @@ module _ (E : Table) (a b before before' : Bodies) (g : BodiesGrow a b) (gb : Bo
     prog_grows (Seq c d) = seq_grows c d (prog_grows c) (prog_grows d)
     prog_grows (If' shape arms) = let r = arms_grow arms in
         record { sure = λ s h. (h.0, h.1, r.sure s h.2); ends = r.ends; same = λ s t h e. r.same s t h.2 e }
-    prog_grows (Do' v shape arms) = let r = loop_grows arms (arms_grow arms) in record { sure = r.sure; ends = r.ends; same = r.same }
+    prog_grows (Do' v shape arms) = let r = loop_grows v arms (arms_grow arms) in record { sure = r.sure; ends = r.ends; same = r.same }
     prog_grows (Block x sort c) = let r = prog_grows c in record {
       sure = λ s h v hv. r.sure _ (h v hv);
       ends = λ s t e. (e.0, e.1, e.2, r.ends _ e.1 e.3, e.4);
@@ -138,6 +148,13 @@ ends_below E (suc p) q c s t (inr h) = omega (arith, h.0)
 same_bodies : (a : Bodies) → BodiesGrow a a
 same_bodies a q c = record { sure = λ s h. h; ends = λ s t e. e; same = λ s t h e. e }
 
+-- what grows at all places does so at those of the table
+all_procs : (E : Table) (a b : Bodies) → BodiesGrow a b → ProcsGrow E a b
+all_procs E a b g f e is = g e.place e.body
+
+all_modules : (E : Table) (a b : Bodies) → BodiesGrow a b → ModulesGrow E a b
+all_modules E a b g m d is = g d.place
+
 -- what stands at p grows beside what stands before p
 either_grows : (E : Table) (p : ℕ) (a b : Bodies) → ((q : ℕ) (c : Prog) (s t : State) → b.ends q c s t → q ≡ p)
     → BodiesGrow a b → BodiesGrow (either a (bodies_before E p)) (either b (bodies_before E p))
@@ -162,14 +179,14 @@ own_grows E p zero q c = record { sure = λ s h. absurd h; ends = λ s t e. absu
 own_grows E p (suc k) q c =
     let B = bodies_before E p in
     let r = prog_grows E (either (own_bodies E B p k) B) (either (own_bodies E B p (suc k)) B) B B
-    (either_grows E p _ _ (λ q c s t e. e.0) (own_grows E p k)) (same_bodies B) c in
+    (all_procs E _ _ (either_grows E p _ _ (λ q c s t e. e.0) (own_grows E p k))) (all_modules E B B (same_bodies B)) c in
     record { sure = λ s h. (h.0, r.sure s h.1); ends = λ s t e. (e.0, r.ends s t e.1); same = λ s t h e. (e.0, r.same s t h.1 e.1) }
 
 -- one level more
 level_grows : (E : Table) (p k : ℕ) (c : Prog) → Grows (Sure E p k c) (Sure E p (suc k) c) (MayEnd E p k c) (MayEnd E p (suc k) c)
 level_grows E p k c =
     prog_grows E (bodies E p k) (bodies E p (suc k)) (bodies_before E p) (bodies_before E p)
-    (either_grows E p _ _ (λ q c s t e. e.0) (own_grows E p k)) (same_bodies _) c
+    (all_procs E _ _ (either_grows E p _ _ (λ q c s t e. e.0) (own_grows E p k))) (all_modules E (bodies_before E p) (bodies_before E p) (same_bodies _)) c
 
 pub levels_grow : (E : Table) (p : ℕ) (c : Prog) (k j : ℕ) → k ≤ j → Grows (Sure E p k c) (Sure E p j c) (MayEnd E p k c) (MayEnd E p j c)
 levels_grow E p c k j le = go j (cases_le k j le)

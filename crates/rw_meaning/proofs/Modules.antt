@@ -10,7 +10,7 @@ use Rattle.rw_programs.specs.declared.prog.ModCode.{ModCode}
 use Rattle.rw_programs.specs.State.{Name, State, empty, is_in, only, names_of}
 use Rattle.rw_programs.specs.Tables.{Table, find_module, hold}
 use Rattle.rw_programs.specs.Scoped.{with_entries, with_module}
-use Rattle.rw_meaning.specs.Filling.{module_entries, brought, PartFits, PartsFit, FitsIn}
+use Rattle.rw_meaning.specs.Filling.{module_entries, brought, brings_of, PartFits, PartsFit, FitsIn}
 use Rattle.rw_meaning.proofs.Tests.{same_bytes, bytes_same, if_not}
 use Rattle.rw_meaning.proofs.Scopes.{extends, enter_fits, leave_fits}
 
@@ -142,3 +142,19 @@ module _ (E : Table) (opened outside : List Name) (scope inner : List Entry) (m 
         names = abstract_leaves scope inner d (subst (λ o. with_entries scope (brought false o) ≡ Some inner) found k) t.own f.names;
         parts = subst (λ b. PartsFit b E.modules opened t.part) (sym e) p;
       }
+
+-- under an abstract table the names of a module's state are those that its block brings
+pub brought_off : (E : Table) (n : Name) (d : ModCode) → find_module n E.modules ≡ Some d → E.is_concrete ≡ false
+    → (x : Name) → is_in x (map (λ e. e.name) (brings_of E n)) ≡ false → is_in x (names_of d.state) ≡ false
+brought_off E n d found e x h =
+    ap (is_in x) (sym (entries_named d.state))
+    ∙ subst (λ o. is_in x (map (λ e. e.name) (brought false o)) ≡ false) found (subst (λ b. is_in x (map (λ e. e.name) (brought b (find_module n E.modules))) ≡ false) e h)
+
+-- a name that the block does not bring keeps its value where the module's state is written
+pub hold_off : (E : Table) (n : Name) (d : ModCode) → find_module n E.modules ≡ Some d → (x : Name) → is_in x (map (λ e. e.name) (brings_of E n)) ≡ false
+    → (a : Map) (s : State) → (hold E.is_concrete d a s).own x ≡ s.own x
+hold_off E n d found x h a s = go E.is_concrete refl
+  where
+    go : (b : Bool) → E.is_concrete ≡ b → (hold b d a s).own x ≡ s.own x
+    go true e = refl
+    go false e = rw (brought_off E n d found e x h)

@@ -10,7 +10,7 @@ use Rattle.rw_programs.proofs.Frames.{put_all_off}
 use Rattle.rw_meaning.proofs.Tests.{same_bytes, bytes_same, other_bytes, and_then_is, if_is, fresh_is}
 
 -- a name of a scope with one entry more at the end
-abbrev found_with : Option Entry → Bool → Entry → Option Entry
+abbrev pub found_with : Option Entry → Bool → Entry → Option Entry
 found_with None true e = Some e
 found_with None false e = None
 found_with (Some a) b e = Some a
@@ -33,7 +33,7 @@ pub record Extends (scope es inner : List Entry) : Type 0 where
   pub new : (x : Name) → is_in x (map (λ e. e.name) es) ≡ true → (find (has_name x) inner ≡ find (has_name x) es) × (find (has_name x) scope ≡ None)
   pub old : (x : Name) → is_in x (map (λ e. e.name) es) ≡ false → find (has_name x) inner ≡ find (has_name x) scope
 
-with_is : (scope : List Entry) (e : Entry) (inner : List Entry) → with_entry scope e ≡ Some inner → (find (has_name e.name) scope ≡ None) × (scope ++ e ∷ [] ≡ inner)
+pub with_is : (scope : List Entry) (e : Entry) (inner : List Entry) → with_entry scope e ≡ Some inner → (find (has_name e.name) scope ≡ None) × (scope ++ e ∷ [] ≡ inner)
 with_is scope e inner h = let r = if_is (is_fresh e.name scope) (scope ++ e ∷ []) inner h in (fresh_is e.name scope r.0, r.1)
 
 -- nothing is found where nothing is with more

@@ -10,6 +10,7 @@ use Rattle.rw_programs.specs.Made.{Seq, Block, Con, ModBlock}
 use Rattle.rw_programs.specs.State.{Name, State, empty, no_parts, alone, is_in, put_all, names_of, ValuesFor}
 use Rattle.rw_programs.specs.Tables.{Table, find_module}
 use Rattle.rw_programs.specs.Meaning.{Bodies, ends_by, sure_by, bodies, bodies_before}
+use Rattle.rw_programs.specs.Refine.{BetterAt, HasValues}
 use Rattle.rw_programs.specs.Scoped.{with_local, with_pins, with_entries, with_module}
 
 abbrev mutual
@@ -67,6 +68,10 @@ PartsFit true modules opened parts = (m : Name) → PartFits (is_in m opened) (f
 pub record FitsIn (E : Table) (opened : List Name) (scope : List Entry) (s : State) : Type 0 where
   pub names : FitsMap scope s.own
   pub parts : PartsFit E.is_concrete E.modules opened s.part
+
+-- d refines c in a context: at the states that fit the scope and the opened modules, with these values of the names of kind value
+abbrev pub RefinesIn : Map → List Name → List Entry → Table → (p k : ℕ) → Prog → Prog → Type 0
+RefinesIn fixed opened scope E p k c d = (s : State) → FitsIn E opened scope s → HasValues scope fixed s → BetterAt E p k c E p k d s
 
 module _ (brings : Name → List Entry) (Q : List Name → List Entry → Prog → Type 0) where
   abbrev mutual

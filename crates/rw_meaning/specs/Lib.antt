@@ -1,2 +1,4 @@
 pub mod Calls
 pub mod Filling
+pub mod Given
+pub mod Mention

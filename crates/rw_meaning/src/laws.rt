@@ -3,16 +3,17 @@
 ghost use Rattle.std.specs.Prelude.{◌≡◌, ◌≤◌, ◌↔◌, ℕ, List, [], Option, IsSomeAnd, IsTrue};
 ghost use Rattle.rw_terms.specs.declared.scope.Entry.{Entry};
 ghost use Rattle.rw_terms.specs.declared.term.Term.{Term};
-ghost use Rattle.rw_terms.specs.State.{Value};
+ghost use Rattle.rw_terms.specs.State.{Value, State as Map};
 ghost use Rattle.rw_programs.specs.declared.prog.Prog.{Prog};
 ghost use Rattle.rw_programs.specs.Made.{ModBlock};
 ghost use Rattle.rw_programs.specs.State.{Name, State, Fits, empty, alone, put_all, names_of, ValuesFor};
-ghost use Rattle.rw_programs.specs.Tables.{Table, find_proc, find_module, Begins, returned, held, hold};
+ghost use Rattle.rw_programs.specs.Tables.{Table, past, find_proc, find_module, Begins, returned, held, hold};
 ghost use Rattle.rw_programs.specs.Meaning.{MayEnd, Sure, AllDefined, values};
-ghost use Rattle.rw_programs.specs.Refine.{BetterAt, RefinesAt};
+ghost use Rattle.rw_programs.specs.Refine.{BetterAt, RefinesAt, RefinesGiven};
 ghost use Rattle.rw_programs.specs.Scoped.{prog_scoped};
 ghost use Rattle.rw_meaning.specs.Calls.{CallEnds, CallSure, EarlierEnds, EarlierSure};
-ghost use Rattle.rw_meaning.specs.Filling.{fill, FitsIn, CallsFit, KidsRefine};
+ghost use Rattle.rw_meaning.specs.Given.{ValuesStay, KidsRefineGiven};
+ghost use Rattle.rw_meaning.specs.Filling.{fill, FitsIn, RefinesIn, CallsFit, KidsRefine};
 
 /// With more levels of calls of the own body a program has more ends and is sure at more states, and where it was sure it has
 /// no new ends.
@@ -20,6 +21,13 @@ pub fn growth()
     ensures sure { (E : Table) (p k j : ℕ) (c : Prog) (s : State) → k ≤ j → Sure E p k c s → Sure E p j c s }
     ensures ends { (E : Table) (p k j : ℕ) (c : Prog) (s t : State) → k ≤ j → MayEnd E p k c s t → MayEnd E p j c s t }
     ensures same { (E : Table) (p k j : ℕ) (c : Prog) (s t : State) → k ≤ j → Sure E p k c s → MayEnd E p j c s t → MayEnd E p k c s t }
+{}
+
+/// At all places past the last of the table, with any numbers of levels, a program means the same: what is said of main's place
+/// holds of each of them.
+pub fn places_past_all()
+    ensures ends { (E : Table) (p q k j : ℕ) (c : Prog) (s t : State) → past E ≤ p → past E ≤ q → MayEnd E p k c s t ↔ MayEnd E q j c s t }
+    ensures sure { (E : Table) (p q k j : ℕ) (c : Prog) (s : State) → past E ≤ p → past E ≤ q → Sure E p k c s ↔ Sure E q j c s }
 {}
 
 /// What a call means: the body of the procedure at the own place with one level less, or of one at an earlier place, at that
@@ -60,9 +68,12 @@ pub fn module_blocks()
         × ((a : State) → EarlierEnds E p d.place d.start (alone (put_all (names_of d.state) vs empty)) a → Sure E p k c (hold E.is_concrete d a.own s))) }
 {}
 
-/// Where no module is opened, a state fits its context exactly where it fits the scope.
+/// Where no module is opened, a state fits its context exactly where it fits the scope, and refinement in the context is that in the
+/// scope.
 pub fn contexts()
-    ensures { (E : Table) (scope : List Entry) (s : State) → FitsIn E [] scope s ↔ Fits scope s }
+    ensures states { (E : Table) (scope : List Entry) (s : State) → FitsIn E [] scope s ↔ Fits scope s }
+    ensures refinement { (fixed : Map) (scope : List Entry) (E : Table) (p k : ℕ) (c d : Prog)
+        → RefinesIn fixed [] scope E p k c d ↔ RefinesGiven fixed scope E p k c E p k d }
 {}
 
 /// A well scoped program, whose calls and starts end in states that fit where they are sure, ends in states that fit where it is
@@ -83,4 +94,17 @@ pub fn filling()
     ensures in_scope { (brings : Name → List Entry) (E : Table) (p k : ℕ) (ks js : ℕ → Prog) (scope : List Entry) (c : Prog)
         → IsTrue (prog_scoped brings [] scope (fill ks c)) → CallsFit brings E p k [] scope (fill ks c)
         → KidsRefine brings E p k ks js [] scope c → RefinesAt scope E p k (fill ks c) E p k (fill js c) }
+{}
+
+/// The filling law at the states with given values of the names of kind value: the kids need refine at these states alone, where no
+/// part of the program changes such a name.
+pub fn filling_given()
+    ensures in_context { (fixed : Map) (brings : Name → List Entry) (E : Table) (p k : ℕ) (ks js : ℕ → Prog) (opened : List Name) (scope : List Entry) (c : Prog)
+        → IsTrue (prog_scoped brings opened scope (fill ks c)) → CallsFit brings E p k opened scope (fill ks c)
+        → ValuesStay brings E opened scope (fill ks c) → KidsRefineGiven fixed brings E p k ks js opened scope c
+        → RefinesIn fixed opened scope E p k (fill ks c) (fill js c) }
+    ensures in_scope { (fixed : Map) (brings : Name → List Entry) (E : Table) (p k : ℕ) (ks js : ℕ → Prog) (scope : List Entry) (c : Prog)
+        → IsTrue (prog_scoped brings [] scope (fill ks c)) → CallsFit brings E p k [] scope (fill ks c)
+        → ValuesStay brings E [] scope (fill ks c) → KidsRefineGiven fixed brings E p k ks js [] scope c
+        → RefinesGiven fixed scope E p k (fill ks c) E p k (fill js c) }
 {}

@@ -4,9 +4,10 @@ use Rattle.std.specs.Prelude.{bytes_eq}
 use Rattle.rw_terms.specs.declared.term.Sort.{Sort}
 use Rattle.rw_terms.specs.declared.term.Sort.TheVariants.{Int, Array}
 use Rattle.rw_terms.specs.declared.scope.Entry.{Entry}
-use Rattle.rw_terms.specs.State.{Value, Whole, Cells, HasSort, FitsEntry, State as Map}
+use Rattle.rw_terms.specs.State.{Value, Whole, Cells, HasSort, FitsEntry, Fits as FitsMap, State as Map}
 use Rattle.rw_terms.specs.Scopes.{has_name}
-use Rattle.rw_programs.specs.State.{Name, State, Fits, SameSort, Within, is_in, put_all}
+use Rattle.rw_programs.specs.State.{Name, State, SameSort, Within, is_in, put_all}
+use Rattle.rw_programs.proofs.Beside.{FitsBeside}
 
 -- a name outside the list keeps what it has
 pub put_all_off : (xs : List Name) (vs : List (Option Value)) (m : Map) (x : Name) → is_in x xs ≡ false → put_all xs vs m x ≡ m x
@@ -46,7 +47,7 @@ same_same (Some u) (Some v) None h k = absurd k
 same_same (Some u) (Some v) (Some w) h k = (h.0, h.1, sort_moves h.0 k.0 v w h.2 k.1 k.2)
 
 -- a state within a frame of one that fits, fits
-pub within_fits : (scope : List Entry) (w : List Name) (s t : State) → Fits scope s → Within w s t → Fits scope t
+pub within_fits : {others : Name → Map} (scope : List Entry) (w : List Name) (s t : State) → FitsBeside others scope s → Within w s t → FitsBeside others scope t
 within_fits scope w s t f h = record { names = λ x. go x (is_in x w) refl; parts = h.parts ∙ f.parts }
   where
     go : (x : Name) (b : Bool) → is_in x w ≡ b → FitsEntry (find (has_name x) scope) (t.own x)
@@ -66,5 +67,5 @@ fits_itself None (Some v) f = absurd f
 fits_itself (Some a) None f = absurd f
 fits_itself (Some a) (Some v) f = (a.sort, f, f)
 
-pub within_refl : (scope : List Entry) (w : List Name) (s : State) → Fits scope s → Within w s s
-within_refl scope w s f = record { off = λ x e. refl; sorts = λ x e. fits_itself _ _ (f.names x); parts = refl }
+pub within_refl : (scope : List Entry) (w : List Name) (s : State) → FitsMap scope s.own → Within w s s
+within_refl scope w s f = record { off = λ x e. refl; sorts = λ x e. fits_itself _ _ (f x); parts = refl }

@@ -1,3 +1,4 @@
+pub mod Beside
 pub mod Coded
 pub mod Frames
 pub mod Rules

@@ -6,11 +6,12 @@ use Rattle.rw_terms.specs.declared.term.Formula.{Formula}
 use Rattle.rw_terms.specs.State.{State as Map}
 use Rattle.rw_programs.specs.declared.prog.Prog.{Prog, Spec, Assign}
 use Rattle.rw_programs.specs.Made.{Seq}
-use Rattle.rw_programs.specs.State.{Name, State, Holds, Within, is_in}
+use Rattle.rw_programs.specs.State.{Name, State, Holds, Within, alone, is_in}
 use Rattle.rw_programs.specs.Tables.{Table}
 use Rattle.rw_programs.specs.Meaning.{values}
-use Rattle.rw_programs.specs.Refine.{HasValues, RefinesGiven}
+use Rattle.rw_programs.specs.Refine.{HasValues}
 use Rattle.rw_programs.specs.Laws.{Follows, FollowsAfter, IsInitialFree, KeepsValues, AssignFits, assigned}
+use Rattle.rw_programs.proofs.Beside.{RefinesBeside, alone_fits}
 use Rattle.rw_programs.proofs.Frames.{within_fits, within_trans, put_all_off}
 use Rattle.rw_programs.proofs.Skipping.{stable}
 
@@ -22,28 +23,28 @@ within_values scope fixed w s t keeps has h x v = go (is_in x w) refl
     go true e = absurd (true≢false (sym v ∙ keeps x e))
     go false e = h.off x e ∙ has x v
 
-module _ (fixed : Map) (scope : List Entry) (E : Table) (p k : ℕ) (w : List Name) (pre post : Formula) where
+module _ (fixed : Map) (others : Name → Map) (scope : List Entry) (E : Table) (p k : ℕ) (w : List Name) (pre post : Formula) where
   abbrev spec : Formula → Formula → Prog
   spec f g = Spec (record { frame = w; pre = f; post = g })
 
   abbrev Better : Prog → Prog → Type 0
-  Better c d = RefinesGiven fixed scope E p k c E p k d
+  Better c d = RefinesBeside fixed others scope E p k c d
 
   pub weaken_law : (f : Formula) (c : Prog) → Follows scope E.library pre (λ s. ¬ (¬ (Holds E.library f s s)))
       → Better (spec f post) c → Better (spec pre post) c
-  weaken_law f c follows kid s fits has h = kid s fits has (stable E.library f s s (follows s fits h))
+  weaken_law f c follows kid s fits has h = kid s fits has (stable E.library f s s (follows (alone s.own) (alone_fits scope s.own fits.names) h))
 
   pub strengthen_law : (f : Formula) (c : Prog) → FollowsAfter scope E.library w pre f post → Better (spec pre f) c → Better (spec pre post) c
   strengthen_law f c follows kid s fits has h =
       let better = kid s fits has h in
-      (better.0, λ t end. let i = better.1 t end in (i.0, stable E.library post s t (follows s t fits i.0 h i.1)))
+      (better.0, λ t end. let i = better.1 t end in (i.0, stable E.library post s t (follows (alone s.own) (alone t.own) (alone_fits scope s.own fits.names) (record { off = i.0.off; sorts = i.0.sorts; parts = refl }) h i.1)))
 
   pub assign_law : (names : List Name) (terms : List Term) → AssignFits scope E.library w pre post names terms → Better (spec pre post) (Assign names terms)
   assign_law names terms a s fits has h = (
-    a.defined s fits h,
+    a.defined (alone s.own) (alone_fits scope s.own fits.names) h,
     λ t e. subst (λ t. Within w s t × Holds E.library post s t) (sym e) (
-      record { off = λ x out. put_all_off names (values terms s) s.own x (a.in_frame x out); sorts = a.sorts s fits; parts = refl },
-      stable E.library post s (assigned names terms s) (a.after s fits h),
+      record { off = λ x out. put_all_off names (values terms s) s.own x (a.in_frame x out); sorts = a.sorts (alone s.own) (alone_fits scope s.own fits.names); parts = refl },
+      stable E.library post s (assigned names terms s) (a.after (alone s.own) (alone_fits scope s.own fits.names) h),
     ),
   )
 

@@ -6,14 +6,10 @@ use Rattle.rw_terms.specs.declared.term.Term.TheFolds.{fold-Term}
 use Rattle.rw_terms.specs.declared.term.Formula.{Formula}
 use Rattle.rw_terms.specs.declared.term.Formula.TheOpen.{Formula-F}
 use Rattle.rw_terms.specs.declared.term.Formula.TheFolds.{fold-Formula}
+use Rattle.rw_terms.specs.AllOf.{all_of}
 use Rattle.rw_programs.specs.declared.prog.Arm.{Arm}
 use Rattle.rw_programs.specs.declared.prog.Prog.{Prog, Spec, Kid, Skip, Assign, If', Do', Call, OpCall, Row_of-Arm, end_of-Arm, more_of-Arm}
 use Rattle.rw_programs.specs.Made.{Seq, Block, Con, ModBlock}
-
--- whether all of them hold
-abbrev pub all_of : List Bool → Bool
-all_of [] = true
-all_of (b ∷ bs) = b && all_of bs
 
 -- one layer of a term, from what its parts are
 abbrev pub plain_step : Term-F Bool → Bool

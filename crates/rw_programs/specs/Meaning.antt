@@ -1,7 +1,7 @@
 -- What programs do: `MayEnd`, which ends a program may have, and `Sure`, that every way of it comes to an end.
-use Rattle.std.specs.Prelude.{◌≡◌, ℕ, zero, suc, ◌≤◌, List, [], map, All, Option, Some, None, ◌⊎◌, IsSomeAnd}
+use Rattle.std.specs.Prelude.{◌≡◌, ℕ, zero, suc, ◌≤◌, ℤ, pos, negsuc, Bool, true, false, List, [], map, All, Option, Some, None, ◌⊎◌, IsSomeAnd}
 use Rattle.rw_terms.specs.declared.term.Term.{Term}
-use Rattle.rw_terms.specs.State.{Value, HasSort}
+use Rattle.rw_terms.specs.State.{Value, whole, HasSort}
 use Rattle.rw_terms.specs.Value.{value}
 use Rattle.rw_terms.specs.Defined.{Defined, GuardDefined}
 use Rattle.rw_terms.specs.Truth.{Definition}
@@ -32,6 +32,16 @@ GuardsDefined (more_of-Arm g b rest) s = GuardDefined s.own s.own g × GuardsDef
 abbrev pub Chain : (State → State → Type 0) → ℕ → State → State → Type 0
 Chain turn zero s t = s ≡ t
 Chain turn (suc n) s t = (m : State) × Chain turn n s m × turn m t
+
+-- the larger of 0 and the number
+abbrev pub at_least_0 : ℤ → ℕ
+at_least_0 (pos n) = n
+at_least_0 (negsuc n) = 0
+
+-- what may bound the turns of a loop: where its variant is to do so, the larger of 0 and the variant's value, and else any number
+abbrev pub IsBound : Bool → Term → State → ℕ → Type 0
+IsBound true variant s n = n ≡ at_least_0 (whole (value s.own s.own [] variant))
+IsBound false variant s n = Unit {0}
 
 -- What bodies do for the programs that call them: whether one, by its place, may end in t from s, and whether it is sure from s.
 pub record Bodies : Type 1 where
@@ -107,10 +117,10 @@ module _ (E : Table) (calls before : Bodies) where
     sure_by (Seq c d) s = sure_by c s × ((m : State) → ends_by c s m → sure_by d m)
     -- all guards are defined, not every guard fails, and the body is sure for each that holds
     sure_by (If' shape arms) s = GuardsDefined arms s × (¬ (NoGuard E.library arms s)) × arms_sure arms s
-    -- No chain from s has more than n turns, for some n. At the last state of each chain the guards are defined, and the body
-    -- of each guard that holds is sure.
+    -- No chain from s has more than n turns, for some n that may bound them. At the last state of each chain the guards are
+    -- defined, and the body of each guard that holds is sure.
     sure_by (Do' variant shape arms) s =
-        ((n : ℕ) × ((k : ℕ) (t : State) → Chain (arm_ends arms) k s t → k ≤ n))
+        ((n : ℕ) × ((k : ℕ) (t : State) → Chain (arm_ends arms) k s t → k ≤ n) × IsBound E.by_variant variant s n)
         × ((k : ℕ) (t : State) → Chain (arm_ends arms) k s t → GuardsDefined arms t × arms_sure arms t)
     -- the body is sure for each first value
     sure_by (Block x sort c) s = (v : Value) → HasSort v sort → sure_by c (with_own s (put x (Some v) s.own))

@@ -11,6 +11,7 @@ use Rattle.rw_terms.specs.declared.term.Formula.TheFolds.{fold-Formula}
 use Rattle.rw_terms.specs.Scopes.{is_fresh}
 use Rattle.rw_terms.specs.Sorts.{variable_sort}
 use Rattle.rw_terms.specs.Formed.{is_sort}
+use Rattle.rw_terms.specs.AllOf.{all_of}
 use Rattle.rw_terms.specs.Rules.{sort_in, is_of, may_equal_of, of_ints}
 use Rattle.rw_programs.specs.declared.prog.Arm.{Arm}
 use Rattle.rw_programs.specs.declared.prog.Pin.{Pin}
@@ -18,7 +19,6 @@ use Rattle.rw_programs.specs.declared.prog.Spec.{Spec}
 use Rattle.rw_programs.specs.declared.prog.Prog.TheVariants as prog
 use Rattle.rw_programs.specs.declared.prog.Prog.{Prog, Kid, Skip, Assign, If', Do', Call, OpCall, Row_of-Arm, end_of-Arm, more_of-Arm}
 use Rattle.rw_programs.specs.Made.{Seq, Block, Con, ModBlock}
-use Rattle.rw_programs.specs.CodeTest.{all_of}
 use Rattle.rw_programs.specs.State.{Name, is_in}
 
 -- the names are variables of the scope

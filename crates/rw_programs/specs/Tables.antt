@@ -14,6 +14,8 @@ pub record Table : Type 0 where
   pub library : List Definition
   -- whether a module's names are kept under the module's name, and are not names of the state
   pub is_concrete : Bool
+  -- whether a loop is sure only where its turns are within its variant's value at entry
+  pub by_variant : Bool
   pub procs : List ProcCode
   pub modules : List ModCode
 

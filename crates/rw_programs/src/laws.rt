@@ -10,7 +10,7 @@ ghost use Rattle.rw_programs.specs.declared.prog.Spec.{Spec};
 ghost use Rattle.rw_programs.specs.State.{Name, State, Fits, Holds};
 ghost use Rattle.rw_programs.specs.Tables.{Table};
 ghost use Rattle.rw_programs.specs.Meaning.{MayEnd};
-ghost use Rattle.rw_programs.specs.Refine.{Wp, WpAt, BetterAt, Refines, RefinesAt, RefinesGiven};
+ghost use Rattle.rw_programs.specs.Refine.{Wp, WpAt, BetterAt, Refines, RefinesAt, HasValues, RefinesGiven};
 ghost use Rattle.rw_programs.specs.Laws.{Follows, FollowsAfter, IsInitialFree, KeepsValues, AssignFits};
 ghost use Rattle.rw_programs.specs.Made.{Seq};
 
@@ -22,17 +22,27 @@ pub trait States {
     ghost has: { State → Type 0 };
 }
 
-/// Where a program refines another, each weakest precondition of the other implies its own.
+/// Where a program refines another, each weakest precondition of the other implies its own: at one state, in a scope, and at the
+/// states with given values of the names of kind value.
 pub fn refinement_gives_preconditions<Q: States>()
+    ensures at_state { (E F : Table) (p k q j : ℕ) (c d : Prog) (s : State)
+        → BetterAt E p k c F q j d s → WpAt E p k c Q.has s → WpAt F q j d Q.has s }
     ensures anywhere { (scope : List Entry) (E F : Table) (p k q j : ℕ) (c d : Prog) → RefinesAt scope E p k c F q j d
         → (s : State) → Fits scope s → WpAt E p k c Q.has s → WpAt F q j d Q.has s }
+    ensures given { (fixed : Map) (scope : List Entry) (E F : Table) (p k q j : ℕ) (c d : Prog) → RefinesGiven fixed scope E p k c F q j d
+        → (s : State) → Fits scope s → HasValues scope fixed s → WpAt E p k c Q.has s → WpAt F q j d Q.has s }
     ensures past_all { (scope : List Entry) (E F : Table) (c d : Prog) → Refines scope c E d F
         → (s : State) → Fits scope s → Wp E c Q.has s → Wp F d Q.has s }
 {}
 
 /// The same of the states in which a formula holds, read by the first table's library on both sides.
 pub fn refinement_gives_formulas()
-    ensures { (scope : List Entry) (E F : Table) (c d : Prog) → Refines scope c E d F → (f : Formula)
+    ensures anywhere { (scope : List Entry) (E F : Table) (p k q j : ℕ) (c d : Prog) → RefinesAt scope E p k c F q j d → (f : Formula)
+        → (s : State) → Fits scope s → WpAt E p k c (λ t. Holds E.library f t t) s → WpAt F q j d (λ t. Holds E.library f t t) s }
+    ensures given { (fixed : Map) (scope : List Entry) (E F : Table) (p k q j : ℕ) (c d : Prog) → RefinesGiven fixed scope E p k c F q j d
+        → (f : Formula) → (s : State) → Fits scope s → HasValues scope fixed s
+        → WpAt E p k c (λ t. Holds E.library f t t) s → WpAt F q j d (λ t. Holds E.library f t t) s }
+    ensures past_all { (scope : List Entry) (E F : Table) (c d : Prog) → Refines scope c E d F → (f : Formula)
         → (s : State) → Fits scope s → Wp E c (λ t. Holds E.library f t t) s → Wp F d (λ t. Holds E.library f t t) s }
 {}
 
@@ -42,6 +52,10 @@ pub fn preconditions_give_refinement()
     ensures anywhere { (scope : List Entry) (E F : Table) (p k q j : ℕ) (c d : Prog)
         → ((s : State) → Fits scope s → WpAt E p k c (λ t. MayEnd E p k c s t) s → WpAt F q j d (λ t. MayEnd E p k c s t) s)
         → RefinesAt scope E p k c F q j d }
+    ensures given { (fixed : Map) (scope : List Entry) (E F : Table) (p k q j : ℕ) (c d : Prog)
+        → ((s : State) → Fits scope s → HasValues scope fixed s
+        → WpAt E p k c (λ t. MayEnd E p k c s t) s → WpAt F q j d (λ t. MayEnd E p k c s t) s)
+        → RefinesGiven fixed scope E p k c F q j d }
 {}
 
 /// Refinement is reflexive and transitive.

@@ -1,7 +1,7 @@
 -- The laws of assignments.
 use Rattle.std.proofs.Common.{◌≡◌, ℕ, Bool, true, false, ◌||◌, is_some, nat_eq, length, List, [], ◌∷◌, map, find, Option, Some, None, refl, sym, ap, ◌∙◌, subst, true≢false}
 use Rattle.std.specs.Prelude.{not, suc, bytes_eq, All}
-use Rattle.std.proofs.lemmas.Bool.{eq-eqb}
+use Rattle.std.proofs.lemmas.Bool.{eq-eqb, and_from, and_parts, false_from_ne_true, or_parts}
 use Rattle.std.proofs.lemmas.List.Elements.{All-nil, All-cons}
 use Rattle.rw_terms.specs.declared.scope.Entry.{Entry}
 use Rattle.rw_terms.specs.declared.scope.Head.{Head}
@@ -36,22 +36,23 @@ use Rattle.rw_subst.specs.declared.slot.Form.TheVariants as form
 use Rattle.rw_programs.specs.declared.prog.Spec.{Spec}
 use Rattle.rw_programs.specs.declared.prog.Prog.{Prog, Assign}
 use Rattle.rw_programs.specs.Made.{Seq}
-use Rattle.rw_programs.specs.State.{Name, State, Fits, Holds, Within, is_in, put_all}
+use Rattle.rw_programs.specs.State.{Name, State, Holds, Within, is_in, put_all}
 use Rattle.rw_programs.specs.Tables.{Table}
 use Rattle.rw_programs.specs.Meaning.{AllDefined, values}
 use Rattle.rw_programs.specs.Scoped.{each_set, are_set}
 use Rattle.rw_programs.specs.Laws.{AssignFits, assigned}
+use Rattle.rw_programs.proofs.Beside.{FitsBeside}
 use Rattle.rw_programs.proofs.Frames.{within_fits, put_all_off}
 use Rattle.rw_programs.proofs.Skipping.{stable}
 use Rattle.rw_programs.proofs.Rules as rules
 use Rattle.rw_meaning.proofs.Entering.{assigned_fits}
-use Rattle.rw_meaning.proofs.Tests.{left_true, right_true, same_bytes}
-use Rattle.rw_laws.specs.Causes.{each_is, is_assignable, is_kind, is_module_kind, is_ill_set, any_ill_set}
+use Rattle.rw_meaning.proofs.Tests.{same_bytes}
+use Rattle.rw_derived.specs.Causes.{each_is, is_assignable, is_kind, is_module_kind, is_ill_set, any_ill_set}
 use Rattle.rw_subst.specs.Replaced.{replaced_formula}
-use Rattle.rw_laws.specs.Derived.{set_to, assigned_post, followed_post}
+use Rattle.rw_derived.specs.Derived.{set_to, assigned_post, followed_post}
 use Rattle.rw_laws.specs.Laws.{sequent_over}
 use Rattle.rw_soundness.specs.Sound.{IsReady}
-use Rattle.rw_soundness.proofs.Bits.{left_false, right_false, is_false, listed_in, both_true, either}
+use Rattle.rw_soundness.proofs.Bits.{listed_in, either}
 use Rattle.rw_soundness.proofs.Causes.{Assigning}
 use Rattle.rw_soundness.proofs.Ready.{constants_off, within_by_fits, fits_both}
 use Rattle.rw_soundness.proofs.Shapes.{assigned_holds, followed_holds}
@@ -105,11 +106,11 @@ module _ (scope : List Entry) where
     sets [] terms in_frame good known = refl
     sets (x ∷ names) [] in_frame good known = refl
     sets (x ∷ names) (t ∷ terms) in_frame good known =
-        let here = left_true (is_assignable scope frame x) (each_is (is_assignable scope frame) names) in_frame in
-        let listed = left_true (is_listed frame x) (not (is_kind is_module_kind scope x)) here in
-        both_true _ _
-        (set_sort x t (variables x (sym (listed_in frame x) ∙ listed)) (left_known _ _ known) (left_false (is_ill_set scope x t) (any_ill_set scope names terms) good))
-        (sets names terms (right_true (is_assignable scope frame x) (each_is (is_assignable scope frame) names) in_frame) (right_false (is_ill_set scope x t) (any_ill_set scope names terms) good) (right_known _ _ known))
+        let here = (and_parts (is_assignable scope frame x) (each_is (is_assignable scope frame) names) in_frame).0 in
+        let listed = (and_parts (is_listed frame x) (not (is_kind is_module_kind scope x)) here).0 in
+        and_from _ _
+        (set_sort x t (variables x (sym (listed_in frame x) ∙ listed)) (left_known _ _ known) (or_parts (is_ill_set scope x t) (any_ill_set scope names terms) good).0)
+        (sets names terms (and_parts (is_assignable scope frame x) (each_is (is_assignable scope frame) names) in_frame).1 (or_parts (is_ill_set scope x t) (any_ill_set scope names terms) good).1 (right_known _ _ known))
 
   -- each term has a sort
   pub have_sorts : (names : List Name) (terms : List Term) → length names ≡ length terms → each_set scope names terms ≡ true → Each (λ t. (s : Sort) × (sort_in scope [] t ≡ Some s)) terms
@@ -117,8 +118,8 @@ module _ (scope : List Entry) where
   have_sorts [] (t ∷ terms) long e = absurd (cc)
   have_sorts (x ∷ names) [] long e = tt
   have_sorts (x ∷ names) (t ∷ terms) long e = (
-    (equal_parts (variable_sort scope x) (sort_in scope [] t) (left_true (may_equal_of (variable_sort scope x) (sort_in scope [] t)) (each_set scope names terms) e)).1,
-    have_sorts names terms (shorter (length names) (length terms) long) (right_true (may_equal_of (variable_sort scope x) (sort_in scope [] t)) (each_set scope names terms) e),
+    (equal_parts (variable_sort scope x) (sort_in scope [] t) (and_parts (may_equal_of (variable_sort scope x) (sort_in scope [] t)) (each_set scope names terms) e).0).1,
+    have_sorts names terms (shorter (length names) (length terms) long) (and_parts (may_equal_of (variable_sort scope x) (sort_in scope [] t)) (each_set scope names terms) e).1,
   )
     where
       shorter : (a b : ℕ) → suc a ≡ suc b → a ≡ b
@@ -149,24 +150,24 @@ module _ (scope : List Entry) (library : List Definition) (s0 s : Map) (fits0 : 
 -- each of the terms is without initial variables
 each_outside : (terms : List Term) → terms_outside [] terms ≡ false → Each (λ t. term_outside [] t ≡ false) terms
 each_outside [] e = tt
-each_outside (t ∷ terms) e = (left_false (term_outside [] t) (terms_outside [] terms) e, each_outside terms (right_false (term_outside [] t) (terms_outside [] terms) e))
+each_outside (t ∷ terms) e = ((or_parts (term_outside [] t) (terms_outside [] terms) e).0, each_outside terms (or_parts (term_outside [] t) (terms_outside [] terms) e).1)
 
 -- a name off the frame is not among names of the frame
 off_names : (scope : List Entry) (frame names : List Name) → each_is (is_assignable scope frame) names ≡ true → (x : Name) → is_in x frame ≡ false → is_in x names ≡ false
 off_names scope frame [] in_frame x off = refl
-off_names scope frame (y ∷ names) in_frame x off = is_false (is_in x (y ∷ names)) (either ⊥ (bytes_eq x y) (is_in x names) first (λ i. true≢false (sym i ∙ off_names scope frame names (right_true _ _ in_frame) x off)))
+off_names scope frame (y ∷ names) in_frame x off = false_from_ne_true (is_in x (y ∷ names)) (either ⊥ (bytes_eq x y) (is_in x names) first (λ i. true≢false (sym i ∙ off_names scope frame names (and_parts _ _ in_frame).1 x off)))
   where
     first : bytes_eq x y ≡ true → ⊥
     first i =
-        let listed = left_true (is_listed frame y) (not (is_kind is_module_kind scope y)) (left_true (is_assignable scope frame y) (each_is (is_assignable scope frame) names) in_frame) in
+        let listed = (and_parts (is_listed frame y) (not (is_kind is_module_kind scope y)) (and_parts (is_assignable scope frame y) (each_is (is_assignable scope frame) names) in_frame).0).0 in
         true≢false (sym (sym (listed_in frame y) ∙ listed) ∙ (ap (λ z. is_in z frame) (sym (same_bytes x y i)) ∙ off))
 
-module _ (fixed : Map) (scope : List Entry) (E : Table) (p k : ℕ) (heads : List Head) (w : Spec) (ready : IsReady scope heads w) (names : List Name) (terms : List Term) (tests : Assigning scope w names terms) where
+module _ (fixed : Map) (others : Name → Map) (scope : List Entry) (E : Table) (p k : ℕ) (heads : List Head) (w : Spec) (ready : IsReady scope heads w) (names : List Name) (terms : List Term) (tests : Assigning scope w names terms) where
   set_well : each_set scope names terms ≡ true
   set_well = sets scope w.frame ready.variables names terms tests.in_frame tests.sorted tests.known
 
   well_set : are_set scope names terms ≡ true
-  well_set = both_true _ _ (subst (λ n. nat_eq (length names) n ≡ true) tests.long (eq-eqb _ _ refl)) set_well
+  well_set = and_from _ _ (subst (λ n. nat_eq (length names) n ≡ true) tests.long (eq-eqb _ _ refl)) set_well
 
   sorts : Each (λ t. (s : Sort) × (sort_in scope [] t ≡ Some s)) terms
   sorts = have_sorts scope names terms tests.long set_well
@@ -184,24 +185,27 @@ module _ (fixed : Map) (scope : List Entry) (E : Table) (p k : ℕ) (heads : Lis
   constants : (s : State) (x : Name) → stands_in form.Constant x w.post ≡ true → put_all names (values terms s) s.own x ≡ s.own x
   constants s x h = put_all_off names (values terms s) s.own x (off x (constants_off scope heads w.post ready.post.1 w.frame ready.variables x h))
 
-  after_fits : (s : State) → Fits scope s → Fits scope (assigned names terms s)
-  after_fits s fits = record { names = assigned_fits scope s fits.names names terms well_set; parts = fits.parts }
+  after_names : (s : State) → FitsMap scope s.own → FitsMap scope (assigned names terms s).own
+  after_names s fits = assigned_fits scope s fits names terms well_set
+
+  after_fits : (s : State) → FitsBeside others scope s → FitsBeside others scope (assigned names terms s)
+  after_fits s fits = record { names = after_names s fits.names; parts = fits.parts }
 
   pub assign_sound : Valid E.library (sequent_over scope (w.pre ∷ []) (definedness_of scope terms ∷ [])) → Valid E.library (sequent_over scope (w.pre ∷ []) (assigned_post w names terms ∷ []))
-      → Better fixed scope E p k w.frame w.pre w.post (Assign names terms)
-  assign_sound defined after = rules.assign_law fixed scope E p k w.frame w.pre w.post names terms fit
+      → Better fixed others scope E p k w.frame w.pre w.post (Assign names terms)
+  assign_sound defined after = rules.assign_law fixed others scope E p k w.frame w.pre w.post names terms fit
     where
       fit : AssignFits scope E.library w.frame w.pre w.post names terms
       fit = record {
         in_frame = off;
-        sorts = λ s fits x i. fits_both (find (has_name x) scope) (s.own x) ((assigned names terms s).own x) (fits.names x) ((after_fits s fits).names x);
+        sorts = λ s fits x i. fits_both (find (has_name x) scope) (s.own x) ((assigned names terms s).own x) (fits.names x) (after_names s fits.names x);
         defined = λ s fits h. each_all (Defined s.own s.own) terms
-            (defined_by scope E.library s.own s.own fits.names fits.names terms sorts (stable E.library (definedness_of scope terms) s s (follows_of scope E w.pre (definedness_of scope terms) defined s fits h)));
-        after = λ s fits h deny. follows_of scope E w.pre (assigned_post w names terms) after s fits h
+            (defined_by scope E.library s.own s.own fits.names fits.names terms sorts (stable E.library (definedness_of scope terms) s s (follows_of scope E w.pre (definedness_of scope terms) defined s fits.names h)));
+        after = λ s fits h deny. follows_of scope E w.pre (assigned_post w names terms) after s fits.names h
             (λ held. deny ((assigned_holds E.library w.post names terms tests.long closed w.frame s (constants s)).0 held));
       }
 
-  pub follow_sound : (c : Prog) → Better fixed scope E p k w.frame w.pre (followed_post scope w names terms) c → Better fixed scope E p k w.frame w.pre w.post (Seq c (Assign names terms))
+  pub follow_sound : (c : Prog) → Better fixed others scope E p k w.frame w.pre (followed_post scope w names terms) c → Better fixed others scope E p k w.frame w.pre w.post (Seq c (Assign names terms))
   follow_sound c kid s fits has pre =
       let first = kid s fits has pre in (
         (first.0, λ m e. let i = first.1 m e in (at_end m (within_fits scope w.frame s m fits i.0) i.1).0),
@@ -213,7 +217,7 @@ module _ (fixed : Map) (scope : List Entry) (E : Table) (p k : ℕ) (heads : Lis
             ),
       )
     where
-      at_end : (m : State) → Fits scope m → Holds E.library (followed_post scope w names terms) s m → AllDefined terms m × Holds E.library w.post s (assigned names terms m)
+      at_end : (m : State) → FitsBeside others scope m → Holds E.library (followed_post scope w names terms) s m → AllDefined terms m × Holds E.library w.post s (assigned names terms m)
       at_end m fits' h =
           let two = both_hold scope E.library s.own m.own fits.names fits'.names (replaced_formula (set_to names terms) w.post) (definedness_of scope terms) h in
           let here = defined_by scope E.library s.own m.own fits.names fits'.names terms sorts two.1 in (

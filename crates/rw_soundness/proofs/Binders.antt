@@ -1,5 +1,6 @@
 -- Formulas within the limits, and the sorts of terms under binders.
 use Rattle.std.proofs.Common.{◌≡◌, true, List, [], Option, Some, refl, sym, ap, ◌∙◌, subst, leb-true}
+use Rattle.std.proofs.lemmas.Bool.{and_parts}
 use Rattle.rw_terms.specs.declared.scope.Entry.{Entry}
 use Rattle.rw_terms.specs.declared.term.Sort.{Sort}
 use Rattle.rw_terms.specs.declared.term.Sort.TheVariants.{Int, Array}
@@ -12,11 +13,10 @@ use Rattle.rw_terms.specs.Rules.{of_int, of_ints, of_read, of_put, sort_step, so
 use Rattle.rw_terms.specs.WellFormed.{IsSmallFormula}
 use Rattle.rw_subst.proofs.WellSorted.{int_part, int_parts, read_parts, put_parts}
 use Rattle.rw_faults.specs.Limits.{is_small}
-use Rattle.rw_meaning.proofs.Tests.{left_true, right_true}
 
 -- a formula within the limits
 pub small : (f : Formula) → is_small f ≡ true → IsSmallFormula f
-small f e = (leb-true _ _ (left_true _ _ e), leb-true _ _ (right_true _ _ e))
+small f e = (leb-true _ _ (and_parts _ _ e).0, leb-true _ _ (and_parts _ _ e).1)
 
 module _ (scope : List Entry) (b : List Sort) where
   abbrev old : Term → Option Sort

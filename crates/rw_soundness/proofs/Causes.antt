@@ -1,6 +1,6 @@
 -- What is known where no cause is found.
 use Rattle.std.proofs.Common.{◌≡◌, ℕ, Bool, true, false, is_some, length, List, [], map, Option, Some, None, refl, true≢false}
-use Rattle.std.proofs.lemmas.Bool.{eqb-true}
+use Rattle.std.proofs.lemmas.Bool.{eqb-true, not-false}
 use Rattle.rw_terms.specs.declared.scope.Entry.{Entry}
 use Rattle.rw_terms.specs.declared.scope.Head.{Head}
 use Rattle.rw_terms.specs.declared.term.Term.{Term}
@@ -15,11 +15,10 @@ use Rattle.rw_programs.specs.declared.prog.Prog.{Prog}
 use Rattle.rw_programs.specs.declared.applied.Applied.{Applied}
 use Rattle.rw_programs.specs.declared.applied.Misfit.{Misfit}
 use Rattle.rw_laws.specs.declared.premises.Premises.{Premises}
-use Rattle.rw_laws.specs.Derived.{with_constants}
-use Rattle.rw_laws.specs.Causes.{cause_if, each_is, formula_cause, new_cause, seq_cause, is_assignable, any_ill_set, assign_cause, are_fresh, seqcon_cause, con_cause, contract_cause, is_kind, is_fixed_kind, expand_cause}
+use Rattle.rw_derived.specs.Derived.{with_constants}
+use Rattle.rw_derived.specs.Causes.{cause_if, each_is, formula_cause, new_cause, seq_cause, is_assignable, any_ill_set, assign_cause, are_fresh, seqcon_cause, con_cause, contract_cause, is_kind, is_fixed_kind, expand_cause}
 use Rattle.std.specs.List.{list_any}
 use Rattle.rw_laws.specs.Laws.{fits, applied, law_with}
-use Rattle.rw_soundness.proofs.Bits.{of_not}
 
 -- what a law that fits says of its tests
 pub record Fitting (first : Option Misfit) (small twice : Bool) (s : Prog) (p : Premises) (a : Applied) : Type 0 where
@@ -77,9 +76,9 @@ pub assign_tests : (scope : List Entry) (w : Spec) (names : List (List ℕ)) (te
 unfolding assign_cause
 assign_tests scope w names terms e =
     let a = passes _ _ _ e in let b = passes _ _ _ a.1 in let c = passes _ _ _ b.1 in let d = passes _ _ _ c.1 in let s = passes _ _ _ d.1 in let u = passes _ _ _ s.1 in record {
-      long = eqb-true _ _ (of_not _ a.0);
+      long = eqb-true _ _ (not-false _ a.0);
       no_initial = b.0;
-      in_frame = of_not _ d.0;
+      in_frame = not-false _ d.0;
       sorted = s.0;
       known = none (List ℕ) _ u.0;
     }
@@ -94,9 +93,9 @@ pub seqcon_tests : (scope : List Entry) (heads : List Head) (w : Spec) (names : 
 unfolding seqcon_cause
 seqcon_tests scope heads w names f e =
     let a = passes _ _ _ e in let b = passes _ _ _ a.1 in let c = passes _ _ _ b.1 in record {
-      long = eqb-true _ _ (of_not _ a.0);
+      long = eqb-true _ _ (not-false _ a.0);
       initial = b.0;
-      fresh = of_not _ c.0;
+      fresh = not-false _ c.0;
       kept = formula_kept (with_constants scope w.frame names) heads f c.1;
     }
 
@@ -110,11 +109,11 @@ pub con_tests : (scope : List Entry) (x : List ℕ) (t : Term) → con_cause sco
 unfolding con_cause
 con_tests scope x t e =
     let a = passes _ _ _ e in let b = passes _ _ _ a.1 in let c = passes _ _ _ b.1 in let d = passes _ _ _ c.1 in
-    record { no_initial = a.0; fresh = of_not _ b.0; sorted = c.0; known = none (List ℕ) _ d.0 }
+    record { no_initial = a.0; fresh = not-false _ b.0; sorted = c.0; known = none (List ℕ) _ d.0 }
 
 pub contract_tests : (w : Spec) (names : List (List ℕ)) → contract_cause w names ≡ None → each_is (is_listed w.frame) names ≡ true
 unfolding contract_cause
-contract_tests w names e = of_not _ (passes _ _ _ e).0
+contract_tests w names e = not-false _ (passes _ _ _ e).0
 
 pub record Expanding (scope : List Entry) (w : Spec) (names : List (List ℕ)) : Type 0 where
   pub no_frame : list_any (is_listed w.frame) names ≡ false

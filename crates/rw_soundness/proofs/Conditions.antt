@@ -1,5 +1,6 @@
 -- The conditions of a term that keeps the rules of sorts keep them, and have no other initial variables.
 use Rattle.std.proofs.Common.{◌≡◌, ℕ, pos, Bool, true, false, ◌||◌, is_some, List, [], ◌∷◌, ◌++◌, Option, Some, refl, sym, ap, ◌∙◌, subst}
+use Rattle.std.proofs.lemmas.Bool.{and_from, or_from, or_parts}
 use Rattle.rw_terms.specs.declared.scope.Entry.{Entry}
 use Rattle.rw_terms.specs.declared.scope.Head.{Head}
 use Rattle.rw_terms.specs.declared.term.Sort.{Sort}
@@ -23,7 +24,6 @@ use Rattle.rw_subst.specs.Definedness.{array_length, nonzero, not_negative, belo
 use Rattle.rw_subst.proofs.Asking.{paired, asks_layer}
 use Rattle.rw_subst.proofs.Defining.{each_append}
 use Rattle.rw_subst.proofs.WellSorted.{int_part, int_parts, read_parts, put_parts}
-use Rattle.rw_soundness.proofs.Bits.{left_false, right_false, both_true, both_false}
 
 module _ (scope : List Entry) (heads : List Head) (names : List (List ℕ)) where
   -- a formula that keeps the rules, with no initial variable but these
@@ -43,7 +43,7 @@ module _ (scope : List Entry) (heads : List Head) (names : List (List ℕ)) wher
   )
 
   pub and_fine : (f g : Formula) → IsFine f → IsFine g → IsFine (formula.And f g)
-  and_fine f g a b = fine (Formula-F.And f g) (formula.And f g) (formula.rolls-And f g) (both_true _ _ a.0 b.0) (both_false _ _ a.1 b.1)
+  and_fine f g a b = fine (Formula-F.And f g) (formula.And f g) (formula.rolls-And f g) (and_from _ _ a.0 b.0) (or_from _ _ a.1 b.1)
 
   pub conj_with_fine : (f : Formula) (fs : List Formula) → IsFine f → Each IsFine fs → IsFine (conj_with f fs)
   conj_with_fine f [] a h = a
@@ -61,14 +61,14 @@ module _ (scope : List Entry) (heads : List Head) (names : List (List ℕ)) wher
 
   nonzero_fine : (t : Term) → sort_in scope [] t ≡ Some Int → term_outside names t ≡ false → Each IsFine (nonzero t ∷ [])
   nonzero_fine t sort out =
-      let equation = fine (Formula-F.Eq t (v.Lit (pos 0))) (formula.Eq t (v.Lit (pos 0))) (formula.rolls-Eq t (v.Lit (pos 0))) ((λ i. may_equal_of (sort i) (lit_sort 0 i))) (both_false _ _ out (lit_out 0)) in
+      let equation = fine (Formula-F.Eq t (v.Lit (pos 0))) (formula.Eq t (v.Lit (pos 0))) (formula.rolls-Eq t (v.Lit (pos 0))) ((λ i. may_equal_of (sort i) (lit_sort 0 i))) (or_from _ _ out (lit_out 0)) in
       (fine (Formula-F.Not (formula.Eq t (v.Lit (pos 0)))) (nonzero t) (formula.rolls-Not (formula.Eq t (v.Lit (pos 0)))) equation.0 equation.1, tt)
 
   range_fine : (a t : Term) → sort_in scope [] t ≡ Some Int → term_outside names t ≡ false → Each IsFine (in_range scope a t)
   range_fine a t sort out =
       let n = array_length (sort_report scope [] a).sort in (
-        fine (Formula-F.AtMost (v.Lit (pos 0)) t) (not_negative t) (formula.rolls-AtMost (v.Lit (pos 0)) t) (λ i. is_some (of_ints (lit_sort 0 i) (sort i))) (both_false _ _ (lit_out 0) out),
-        (fine (Formula-F.Less t (v.Lit (pos n))) (below t n) (formula.rolls-Less t (v.Lit (pos n))) (λ i. is_some (of_ints (sort i) (lit_sort n i))) (both_false _ _ out (lit_out n)), tt),
+        fine (Formula-F.AtMost (v.Lit (pos 0)) t) (not_negative t) (formula.rolls-AtMost (v.Lit (pos 0)) t) (λ i. is_some (of_ints (lit_sort 0 i) (sort i))) (or_from _ _ (lit_out 0) out),
+        (fine (Formula-F.Less t (v.Lit (pos n))) (below t n) (formula.rolls-Less t (v.Lit (pos n))) (λ i. is_some (of_ints (sort i) (lit_sort n i))) (or_from _ _ out (lit_out n)), tt),
       )
 
   abbrev out : Term → Bool
@@ -87,12 +87,12 @@ module _ (scope : List Entry) (heads : List Head) (names : List (List ℕ)) wher
   append fs gs h k = (each_append IsFine fs gs).1 (h, k)
 
   two : (a b : Part) (q r : Sort) → sort_in scope [] a.0 ≡ Some q → sort_in scope [] b.0 ≡ Some r → (out a.0 || out b.0) ≡ false → Each IsFine (conditions scope a.0 ++ conditions scope b.0)
-  two a b q r e f o = append (conditions scope a.0) (conditions scope b.0) (a.1 q e (left_false (out a.0) (out b.0) o)) (b.1 r f (right_false (out a.0) (out b.0) o))
+  two a b q r e f o = append (conditions scope a.0) (conditions scope b.0) (a.1 q e (or_parts (out a.0) (out b.0) o).0) (b.1 r f (or_parts (out a.0) (out b.0) o).1)
 
   divided : (a b : Part) (s : Sort) → of_ints (sort_in scope [] a.0) (sort_in scope [] b.0) ≡ Some s → (out a.0 || out b.0) ≡ false → Each IsFine ((conditions scope a.0 ++ conditions scope b.0) ++ nonzero b.0 ∷ [])
   divided a b s e o =
       let parts = int_parts _ _ s e in
-      append (conditions scope a.0 ++ conditions scope b.0) (nonzero b.0 ∷ []) (two a b Int Int parts.0 parts.1 o) (nonzero_fine b.0 parts.1 (right_false (out a.0) (out b.0) o))
+      append (conditions scope a.0 ++ conditions scope b.0) (nonzero b.0 ∷ []) (two a b Int Int parts.0 parts.1 o) (nonzero_fine b.0 parts.1 (or_parts (out a.0) (out b.0) o).1)
 
   plain : (a b : Part) (s : Sort) → of_ints (sort_in scope [] a.0) (sort_in scope [] b.0) ≡ Some s → (out a.0 || out b.0) ≡ false → Each IsFine (conditions scope a.0 ++ conditions scope b.0)
   plain a b s e o = let parts = int_parts _ _ s e in two a b Int Int parts.0 parts.1 o
@@ -113,13 +113,13 @@ module _ (scope : List Entry) (heads : List Head) (names : List (List ℕ)) wher
   layer (Term-F.Read a i) s e o =
       let parts = read_parts _ _ s e in
       append (conditions scope a.0 ++ conditions scope i.0) (in_range scope a.0 i.0) (two a i (Array parts.length) Int parts.array parts.index o)
-      (range_fine a.0 i.0 parts.index (right_false (out a.0) (out i.0) o))
+      (range_fine a.0 i.0 parts.index (or_parts (out a.0) (out i.0) o).1)
   layer (Term-F.Put a i z) s e o =
       let parts = put_parts _ _ _ s e in
-      let first = left_false (out a.0 || out i.0) (out z.0) o in
+      let first = (or_parts (out a.0 || out i.0) (out z.0) o).0 in
       append ((conditions scope a.0 ++ conditions scope i.0) ++ conditions scope z.0) (in_range scope a.0 i.0)
-      (append (conditions scope a.0 ++ conditions scope i.0) (conditions scope z.0) (two a i (Array parts.length) Int parts.array parts.index first) (z.1 Int parts.item (right_false (out a.0 || out i.0) (out z.0) o)))
-      (range_fine a.0 i.0 parts.index (right_false (out a.0) (out i.0) first))
+      (append (conditions scope a.0 ++ conditions scope i.0) (conditions scope z.0) (two a i (Array parts.length) Int parts.array parts.index first) (z.1 Int parts.item (or_parts (out a.0 || out i.0) (out z.0) o).1))
+      (range_fine a.0 i.0 parts.index (or_parts (out a.0) (out i.0) first).1)
   layer (Term-F.Fun f args) s e o = absurd (cc)
 
   claim_at : (y : Term-F Part) → Claim (roll-Term (under y))
@@ -133,8 +133,8 @@ module _ (scope : List Entry) (heads : List Head) (names : List (List ℕ)) wher
   all_fine : (terms : List Term) → Each (λ t. (s : Sort) × (sort_in scope [] t ≡ Some s)) terms → terms_outside names terms ≡ false → Each IsFine (conditions_of scope terms)
   all_fine [] sorts o = tt
   all_fine (t ∷ terms) sorts o =
-      append (conditions scope t) (conditions_of scope terms) (conditions_fine t sorts.0.0 sorts.0.1 (left_false (out t) (terms_outside names terms) o))
-      (all_fine terms sorts.1 (right_false (out t) (terms_outside names terms) o))
+      append (conditions scope t) (conditions_of scope terms) (conditions_fine t sorts.0.0 sorts.0.1 (or_parts (out t) (terms_outside names terms) o).0)
+      (all_fine terms sorts.1 (or_parts (out t) (terms_outside names terms) o).1)
 
   -- the formula that says that terms are defined
   pub definedness_fine : (terms : List Term) → Each (λ t. (s : Sort) × (sort_in scope [] t ≡ Some s)) terms → terms_outside names terms ≡ false → IsFine (definedness_of scope terms)

@@ -1,5 +1,6 @@
 -- The laws of constants: what is set is in a wider scope, and goes with the block.
 use Rattle.std.proofs.Common.{◌≡◌, ℕ, Bool, true, false, if◌then◌else◌, is_some, List, [], ◌∷◌, ◌++◌, map, find, Option, Some, None, refl, sym, ap, ◌∙◌, subst, true≢false, append_assoc, append-nil}
+use Rattle.std.proofs.lemmas.Bool.{and_from, and_parts, false_from_ne_true, or_parts}
 use Rattle.std.specs.Prelude.{not, bytes_eq, option_and_then}
 use Rattle.rw_terms.specs.declared.scope.Entry.{Entry}
 use Rattle.rw_terms.specs.declared.scope.Kind.TheVariants as kind
@@ -10,18 +11,18 @@ use Rattle.rw_programs.specs.declared.prog.Spec.{Spec}
 use Rattle.rw_programs.specs.declared.prog.Pin.{Pin}
 use Rattle.rw_programs.specs.declared.prog.Prog.{Prog}
 use Rattle.rw_programs.specs.Made.{Con}
-use Rattle.rw_programs.specs.State.{Name, State, Fits, Holds, Within, is_in, put_all, with_own}
+use Rattle.rw_programs.specs.State.{Name, State, Holds, Within, is_in, put_all, with_own}
 use Rattle.rw_programs.specs.Tables.{Table, pin_names, pin_terms}
 use Rattle.rw_programs.specs.Meaning.{Sure, MayEnd, values}
 use Rattle.rw_programs.specs.Refine.{is_value_entry, HasValues}
 use Rattle.rw_programs.specs.Scoped.{with_entry, with_entries, with_pin, with_pins}
+use Rattle.rw_programs.proofs.Beside.{FitsBeside}
 use Rattle.rw_programs.proofs.Frames.{within_fits, put_all_off}
-use Rattle.rw_meaning.proofs.Tests.{left_true, right_true, fresh_is}
+use Rattle.rw_meaning.proofs.Tests.{fresh_is}
 use Rattle.rw_meaning.proofs.Scopes.{Extends, extends, put_none}
 use Rattle.rw_meaning.proofs.Entering.{pins_fit, pins_gone}
 use Rattle.rw_faults.specs.Initial.{is_listed, is_twice}
-use Rattle.rw_laws.specs.Causes.{each_is}
-use Rattle.rw_soundness.proofs.Bits.{left_false, right_false, is_false, both_true}
+use Rattle.rw_derived.specs.Causes.{each_is}
 use Rattle.rw_soundness.proofs.Ready.{within_by_fits}
 use Rattle.rw_soundness.proofs.Single.{Better}
 
@@ -85,18 +86,18 @@ still_fresh scope e x fresh other = ap (λ o. not (is_some o)) (find_none scope 
 pub entries_enter : (scope es : List Entry) → each_is (λ x. is_fresh x scope) (entry_names es) ≡ true → is_twice (entry_names es) ≡ false → with_entries scope es ≡ Some (scope ++ es)
 entries_enter scope [] fresh once = ap Some (sym (append-nil scope))
 entries_enter scope (e ∷ es) fresh once =
-    let here = left_true (is_fresh e.name scope) (each_is (λ x. is_fresh x scope) (entry_names es)) fresh in
-    let rest = right_true (is_fresh e.name scope) (each_is (λ x. is_fresh x scope) (entry_names es)) fresh in
-    let apart = left_false (is_listed (entry_names es) e.name) (is_twice (entry_names es)) once in
+    let here = (and_parts (is_fresh e.name scope) (each_is (λ x. is_fresh x scope) (entry_names es)) fresh).0 in
+    let rest = (and_parts (is_fresh e.name scope) (each_is (λ x. is_fresh x scope) (entry_names es)) fresh).1 in
+    let apart = (or_parts (is_listed (entry_names es) e.name) (is_twice (entry_names es)) once).0 in
     ap (λ b. option_and_then (λ i. with_entries i es) (if b then Some (scope ++ e ∷ []) else None)) here
-    ∙ (entries_enter (scope ++ e ∷ []) es (stay (entry_names es) rest apart) (right_false (is_listed (entry_names es) e.name) (is_twice (entry_names es)) once)
+    ∙ (entries_enter (scope ++ e ∷ []) es (stay (entry_names es) rest apart) (or_parts (is_listed (entry_names es) e.name) (is_twice (entry_names es)) once).1
     ∙ ap Some (append_assoc scope (e ∷ []) es))
   where
     stay : (names : List Name) → each_is (λ x. is_fresh x scope) names ≡ true → is_listed names e.name ≡ false → each_is (λ x. is_fresh x (scope ++ e ∷ [])) names ≡ true
     stay [] f n = refl
     stay (x ∷ names) f n =
-        both_true _ _ (still_fresh scope e x (left_true (is_fresh x scope) (each_is (λ x. is_fresh x scope) names) f) (left_false (bytes_eq e.name x) (is_listed names e.name) n))
-        (stay names (right_true (is_fresh x scope) (each_is (λ x. is_fresh x scope) names) f) (right_false (bytes_eq e.name x) (is_listed names e.name) n))
+        and_from _ _ (still_fresh scope e x (and_parts (is_fresh x scope) (each_is (λ x. is_fresh x scope) names) f).0 (or_parts (bytes_eq e.name x) (is_listed names e.name) n).0)
+        (stay names (and_parts (is_fresh x scope) (each_is (λ x. is_fresh x scope) names) f).1 (or_parts (bytes_eq e.name x) (is_listed names e.name) n).1)
 
 -- the state in which the body of a block of constants begins, and what is left of the one in which it ends
 abbrev pub begun : List Pin → State → State
@@ -121,15 +122,15 @@ module _ (scope : List Entry) (pins : List Pin) (es : List Entry) (are : AreFor 
   named : entry_names es ≡ pin_names pins
   named = names_are scope pins es are
 
-  pub begun_fits : (s : State) → Fits scope s → Fits inner (begun pins s)
+  pub begun_fits : {others : Name → Map} (s : State) → FitsBeside others scope s → FitsBeside others inner (begun pins s)
   begun_fits s fits = record { names = pins_fit scope s fits.names pins inner pinned; parts = fits.parts }
 
-  pub left_fits : (s : State) → Fits scope s → (m : State) → Fits inner m → Fits scope (left pins m)
+  pub left_fits : {others : Name → Map} (s : State) → FitsBeside others scope s → (m : State) → FitsBeside others inner m → FitsBeside others scope (left pins m)
   left_fits s fits m fits' = record { names = pins_gone scope s fits.names pins inner pinned m.own fits'.names; parts = fits'.parts }
 
   -- a name of the scope is none of the constants
   pub not_pinned : (x : Name) → (find (has_name x) scope ≡ None → ⊥) → is_in x (pin_names pins) ≡ false
-  not_pinned x found = is_false _ (λ i. found (extended.new x (ap (is_in x) named ∙ i)).1)
+  not_pinned x found = false_from_ne_true _ (λ i. found (extended.new x (ap (is_in x) named ∙ i)).1)
 
   -- what the scope has is found as before
   pub found_before : (x : Name) → (find (has_name x) scope ≡ None → ⊥) → find (has_name x) inner ≡ find (has_name x) scope
@@ -152,11 +153,11 @@ module _ (scope : List Entry) (pins : List Pin) (es : List Entry) (are : AreFor 
 
   -- A block of constants refines a specification where its body, from the state with the constants, is sure and ends within the
   -- frame, and the postcondition holds when the constants are gone.
-  pub block_sound : (fixed : Map) (E : Table) (p k : ℕ) (w : Spec) (d : Prog) → ((x : Name) → is_in x w.frame ≡ true → find (has_name x) scope ≡ None → ⊥)
-      → ((s : State) → Fits scope s → HasValues scope fixed s → Holds E.library w.pre s s
+  pub block_sound : (fixed : Map) (others : Name → Map) (E : Table) (p k : ℕ) (w : Spec) (d : Prog) → ((x : Name) → is_in x w.frame ≡ true → find (has_name x) scope ≡ None → ⊥)
+      → ((s : State) → FitsBeside others scope s → HasValues scope fixed s → Holds E.library w.pre s s
       → Sure E p k d (begun pins s) × ((m : State) → MayEnd E p k d (begun pins s) m → Within w.frame (begun pins s) m × Holds E.library w.post s (left pins m)))
-      → Better fixed scope E p k w.frame w.pre w.post (Con pins d)
-  block_sound fixed E p k w d in_scope body s fits has pre =
+      → Better fixed others scope E p k w.frame w.pre w.post (Con pins d)
+  block_sound fixed others E p k w d in_scope body s fits has pre =
       let inside = body s fits has pre in (
         inside.0,
         λ t e. let i = inside.1 e.0 e.1 in

@@ -1,5 +1,6 @@
 -- The laws of smaller and larger frames.
 use Rattle.std.proofs.Common.{◌≡◌, ℕ, Bool, true, false, ◌||◌, List, [], ◌∷◌, ◌++◌, map, find, filter, Option, Some, None, reverse, refl, sym, ap, ◌∙◌, subst, true≢false}
+use Rattle.std.proofs.lemmas.Bool.{false_from_ne_true}
 use Rattle.std.specs.Prelude.{not, bytes_eq}
 use Rattle.rw_terms.specs.declared.scope.Entry.{Entry}
 use Rattle.rw_terms.specs.declared.term.Term.TheVariants as v
@@ -17,12 +18,13 @@ use Rattle.rw_subst.proofs.ClosedTerms.{plain_value}
 use Rattle.rw_subst.proofs.Defining.{conj_holds}
 use Rattle.rw_programs.specs.declared.prog.Spec.{Spec}
 use Rattle.rw_programs.specs.declared.prog.Prog.{Prog}
-use Rattle.rw_programs.specs.State.{Name, State, Fits, Within, is_in}
+use Rattle.rw_programs.specs.State.{Name, State, Within, is_in}
 use Rattle.rw_programs.specs.Tables.{Table}
+use Rattle.rw_programs.proofs.Beside.{FitsBeside}
 use Rattle.rw_programs.proofs.Frames.{within_fits}
 use Rattle.rw_meaning.proofs.Tests.{same_bytes}
-use Rattle.rw_laws.specs.Derived.{without, contracted_post, keeps_value, expanded_post}
-use Rattle.rw_soundness.proofs.Bits.{either, is_false, listed_in}
+use Rattle.rw_derived.specs.Derived.{without, contracted_post, keeps_value, expanded_post}
+use Rattle.rw_soundness.proofs.Bits.{either, listed_in}
 use Rattle.rw_soundness.proofs.Ready.{within_by_fits}
 use Rattle.rw_soundness.proofs.Shapes.{contracted_holds}
 use Rattle.rw_soundness.proofs.Single.{Better}
@@ -47,8 +49,8 @@ taken_out names (y ∷ frame) x i = go (not (is_listed names y)) refl (bytes_eq 
     go true t false e ih = rw t (rw e ih)
     go true t true e ih = absurd (true≢false (sym t ∙ (ap not (listed_in names y) ∙ (ap (λ z. not (is_in z names)) (sym (same_bytes x y e)) ∙ ap not i))))
 
-module _ (fixed : Map) (scope : List Entry) (E : Table) (p k : ℕ) (w : Spec) (names : List Name) where
-  pub contract_sound : (c : Prog) → Better fixed scope E p k (without names w.frame) w.pre (contracted_post w names) c → Better fixed scope E p k w.frame w.pre w.post c
+module _ (fixed : Map) (others : Name → Map) (scope : List Entry) (E : Table) (p k : ℕ) (w : Spec) (names : List Name) where
+  pub contract_sound : (c : Prog) → Better fixed others scope E p k (without names w.frame) w.pre (contracted_post w names) c → Better fixed others scope E p k w.frame w.pre w.post c
   contract_sound c kid s fits has pre =
       let better = kid s fits has pre in (
         better.0,
@@ -62,7 +64,7 @@ module _ (fixed : Map) (scope : List Entry) (E : Table) (p k : ℕ) (w : Spec) (
   in_neither : (frame more : List Name) (x : Name) → is_in x frame ≡ false → is_in x more ≡ false → is_in x (frame ++ more) ≡ false
   in_neither [] more x off out = out
   in_neither (y ∷ frame) more x off out =
-      is_false (is_in x (y ∷ frame ++ more)) (either ⊥ (bytes_eq x y) (is_in x (frame ++ more)) (λ e. true≢false (sym (ap (λ d. d || is_in x frame) e) ∙ off))
+      false_from_ne_true (is_in x (y ∷ frame ++ more)) (either ⊥ (bytes_eq x y) (is_in x (frame ++ more)) (λ e. true≢false (sym (ap (λ d. d || is_in x frame) e) ∙ off))
       (λ i. true≢false (sym i ∙ in_neither frame more x (rest (bytes_eq x y) refl) out)))
     where
       rest : (b : Bool) → bytes_eq x y ≡ b → is_in x frame ≡ false
@@ -92,7 +94,7 @@ module _ (fixed : Map) (scope : List Entry) (E : Table) (p k : ℕ) (w : Spec) (
   same_given (Some o) (Some u) None a b e = absurd b
   same_given (Some o) (Some u) (Some v) a b e = ap Some e
 
-  pub expand_sound : (c : Prog) → Better fixed scope E p k (w.frame ++ names) w.pre (expanded_post w names) c → Better fixed scope E p k w.frame w.pre w.post c
+  pub expand_sound : (c : Prog) → Better fixed others scope E p k (w.frame ++ names) w.pre (expanded_post w names) c → Better fixed others scope E p k w.frame w.pre w.post c
   expand_sound c kid s fits has pre =
       let better = kid s fits has pre in (
         better.0,
@@ -102,7 +104,7 @@ module _ (fixed : Map) (scope : List Entry) (E : Table) (p k : ℕ) (w : Spec) (
             (within_by_fits scope w.frame s t fits fits' (λ x off. keeps x off (is_in x names) refl t fits' i.0 all.1), all.0),
       )
     where
-      keeps : (x : Name) → is_in x w.frame ≡ false → (b : Bool) → is_in x names ≡ b → (t : State) → Fits scope t → Within (w.frame ++ names) s t
+      keeps : (x : Name) → is_in x w.frame ≡ false → (b : Bool) → is_in x names ≡ b → (t : State) → FitsBeside others scope t → Within (w.frame ++ names) s t
           → Each (λ f. holds E.library f s.own t.own []) (map keeps_value names) → t.own x ≡ s.own x
       keeps x off true n t fits' within all = same_given (find (has_name x) scope) (s.own x) (t.own x) (fits.names x) (fits'.names x) (each_kept E.library s.own t.own names all x n)
       keeps x off false n t fits' within all = within.off x (in_neither w.frame names x off n)

@@ -1,5 +1,6 @@
 -- Which initial variables are left when a formula is replaced.
 use Rattle.std.proofs.Common.{◌≡◌, ℕ, suc, Bool, false, not, ◌||◌, List, [], ◌∷◌, map, refl, sym, ap, ◌∙◌, subst}
+use Rattle.std.proofs.lemmas.Bool.{or_from, or_parts}
 use Rattle.rw_terms.specs.declared.term.Term.{Term}
 use Rattle.rw_terms.specs.declared.term.Term.TheVariants as v
 use Rattle.rw_terms.specs.declared.term.Term.TheOpen.{Term-F}
@@ -18,7 +19,6 @@ use Rattle.rw_subst.specs.declared.slot.Change.{Change}
 use Rattle.rw_subst.specs.Slots.{changed}
 use Rattle.rw_subst.specs.Leaves.{rebuilt_step, rebuilt_term, rebuilt_formula_step, rebuilt_formula}
 use Rattle.rw_subst.specs.Replaced.{changed_leaves, replaced_formula}
-use Rattle.rw_soundness.proofs.Bits.{left_false, right_false, both_false}
 
 -- a name in a form is an initial variable that is not among these
 abbrev pub form_outside : List (List ℕ) → Form → List ℕ → Bool
@@ -55,12 +55,12 @@ module _ (names left : List (List ℕ)) (changes : List Change) where
       made z t e h = ap now (sym e) ∙ (fold-roll-Term Bool (outside_step left) z ∙ h)
 
       two : (p q : Part) → (out p.0 || out q.0) ≡ false → (now (re k p.0) || now (re k q.0)) ≡ false
-      two p q e = both_false _ _ (p.1 (left_false (out p.0) (out q.0) e)) (q.1 (right_false (out p.0) (out q.0) e))
+      two p q e = or_from _ _ (p.1 (or_parts (out p.0) (out q.0) e).0) (q.1 (or_parts (out p.0) (out q.0) e).1)
 
       args : (ts : List Part) → any_of (map out (map (λ e. e.0) ts)) ≡ false → any_of (map now (map (re k) (map (λ e. e.0) ts))) ≡ false
       args [] e = refl
       args (t ∷ ts) e =
-          let rest = any_of (map out (map (λ e. e.0) ts)) in both_false _ _ (t.1 (left_false (out t.0) rest e)) (args ts (right_false (out t.0) rest e))
+          let rest = any_of (map out (map (λ e. e.0) ts)) in or_from _ _ (t.1 (or_parts (out t.0) rest e).0) (args ts (or_parts (out t.0) rest e).1)
 
       layer : (y : Term-F Part) → outside_step names (map-Term Term Bool out (under y)) ≡ false → now (rebuilt_step (changed_leaves changes) k (map-Term Term Term (re k) (under y))) ≡ false
       layer (Term-F.Lit n) e = made (Term-F.Lit n) (v.Lit n) (v.rolls-Lit n) refl
@@ -76,9 +76,9 @@ module _ (names left : List (List ℕ)) (changes : List Change) where
       layer (Term-F.Mod p q) e = made (Term-F.Mod (re k p.0) (re k q.0)) (v.Mod (re k p.0) (re k q.0)) (v.rolls-Mod (re k p.0) (re k q.0)) (two p q e)
       layer (Term-F.Read p q) e = made (Term-F.Read (re k p.0) (re k q.0)) (v.Read (re k p.0) (re k q.0)) (v.rolls-Read (re k p.0) (re k q.0)) (two p q e)
       layer (Term-F.Put p q r) e =
-          let first = left_false (out p.0 || out q.0) (out r.0) e in
+          let first = (or_parts (out p.0 || out q.0) (out r.0) e).0 in
           made (Term-F.Put (re k p.0) (re k q.0) (re k r.0)) (v.Put (re k p.0) (re k q.0) (re k r.0)) (v.rolls-Put (re k p.0) (re k q.0) (re k r.0))
-          (both_false _ _ (two p q first) (r.1 (right_false (out p.0 || out q.0) (out r.0) e)))
+          (or_from _ _ (two p q first) (r.1 (or_parts (out p.0 || out q.0) (out r.0) e).1))
       layer (Term-F.Fun f ts) e = made (Term-F.Fun f (map (re k) (map (λ e. e.0) ts))) (v.Fun f (map (re k) (map (λ e. e.0) ts))) (v.rolls-Fun f (map (re k) (map (λ e. e.0) ts))) (args ts e)
 
       claim_at : (y : Term-F Part) → Claim (roll-Term (under y))
@@ -89,10 +89,10 @@ module _ (names left : List (List ℕ)) (changes : List Change) where
 
       outside_terms : (ts : List Term) → terms_outside names ts ≡ false → terms_outside left (map (re k) ts) ≡ false
       outside_terms [] e = refl
-      outside_terms (t ∷ ts) e = both_false _ _ (outside_term t (left_false (out t) (terms_outside names ts) e)) (outside_terms ts (right_false (out t) (terms_outside names ts) e))
+      outside_terms (t ∷ ts) e = or_from _ _ (outside_term t (or_parts (out t) (terms_outside names ts) e).0) (outside_terms ts (or_parts (out t) (terms_outside names ts) e).1)
 
       compared : (t u : Term) → (out t || out u) ≡ false → (now (re k t) || now (re k u)) ≡ false
-      compared t u e = both_false _ _ (outside_term t (left_false (out t) (out u) e)) (outside_term u (right_false (out t) (out u) e))
+      compared t u e = or_from _ _ (outside_term t (or_parts (out t) (out u) e).0) (outside_term u (or_parts (out t) (out u) e).1)
 
     abbrev ref : Formula → ℕ → Formula
     ref f k = rebuilt_formula (changed_leaves changes) f k
@@ -110,7 +110,7 @@ module _ (names left : List (List ℕ)) (changes : List Change) where
     made_formula z f e h = ap (initial_outside left) (sym e) ∙ (fold-roll-Formula Bool (formula_outside_step left) z ∙ h)
 
     both : (f g : Sub) (k : ℕ) → (initial_outside names f.0 || initial_outside names g.0) ≡ false → (initial_outside left (ref f.0 k) || initial_outside left (ref g.0 k)) ≡ false
-    both f g k e = both_false _ _ (f.1 k (left_false (initial_outside names f.0) (initial_outside names g.0) e)) (g.1 k (right_false (initial_outside names f.0) (initial_outside names g.0) e))
+    both f g k e = or_from _ _ (f.1 k (or_parts (initial_outside names f.0) (initial_outside names g.0) e).0) (g.1 k (or_parts (initial_outside names f.0) (initial_outside names g.0) e).1)
 
     formula_layer : (y : Formula-F Sub) (k : ℕ) → formula_outside_step names (map-Formula Formula Bool (initial_outside names) (inside y)) ≡ false
         → initial_outside left (rebuilt_formula_step (changed_leaves changes) (map-Formula Formula (ℕ → Formula) (rebuilt_formula (changed_leaves changes)) (inside y)) k) ≡ false

@@ -1,7 +1,7 @@
 -- The law of a constant with the value of a term, and that of sequences with constants.
 use Rattle.std.proofs.Common.{◌≡◌, ℕ, Bool, true, false, if◌then◌else◌, ◌||◌, is_some, length, List, [], ◌∷◌, find, reverse, Option, Some, None, refl, sym, ap, ◌∙◌, subst, true≢false}
 use Rattle.std.specs.Prelude.{not, suc, bytes_eq, option_and_then}
-use Rattle.std.proofs.lemmas.Bool.{eq-eqb}
+use Rattle.std.proofs.lemmas.Bool.{eq-eqb, and_from, and_parts, false_from_ne_true, not-true, or_parts, or_right}
 use Rattle.rw_terms.specs.declared.scope.Entry.{Entry}
 use Rattle.rw_terms.specs.declared.scope.Head.{Head}
 use Rattle.rw_terms.specs.declared.term.Sort.{Sort}
@@ -15,7 +15,7 @@ use Rattle.rw_terms.specs.Scopes.{has_name, is_fresh}
 use Rattle.rw_terms.specs.Sorts.{as_variable, as_constant, variable_sort}
 use Rattle.rw_terms.specs.Formed.{may_equal}
 use Rattle.rw_terms.specs.Rules.{sort_in}
-use Rattle.rw_terms.specs.State.{Value, given, value_in, FitsEntry, State as Map}
+use Rattle.rw_terms.specs.State.{Value, given, value_in, FitsEntry, State as Map, Fits as FitsMap}
 use Rattle.rw_terms.specs.Value.{value}
 use Rattle.rw_terms.specs.Truth.{predicates_of, holds}
 use Rattle.rw_terms.proofs.Truths.{from_layer}
@@ -34,19 +34,20 @@ use Rattle.rw_programs.specs.declared.prog.Spec.{Spec}
 use Rattle.rw_programs.specs.declared.prog.Pin.{Pin}
 use Rattle.rw_programs.specs.declared.prog.Prog.{Prog}
 use Rattle.rw_programs.specs.Made.{Seq, Con}
-use Rattle.rw_programs.specs.State.{Name, State, Fits, Holds, Within, is_in, put_all}
+use Rattle.rw_programs.specs.State.{Name, State, Holds, Within, is_in, put_all}
 use Rattle.rw_programs.specs.Tables.{Table, pin_names, pin_terms}
 use Rattle.rw_programs.specs.Meaning.{Sure, MayEnd, values}
 use Rattle.rw_programs.specs.Refine.{is_value_entry, HasValues}
 use Rattle.rw_programs.specs.Laws.{KeepsValues}
+use Rattle.rw_programs.proofs.Beside.{FitsBeside}
 use Rattle.rw_programs.proofs.Frames.{within_fits, within_trans}
 use Rattle.rw_programs.proofs.Rules.{within_values}
-use Rattle.rw_meaning.proofs.Tests.{left_true, right_true, same_bytes, bytes_same}
-use Rattle.rw_laws.specs.Causes.{each_is}
-use Rattle.rw_laws.specs.Derived.{pins_for, constants_for, constant, with_constants, with_constant, sort_or_int, pinned, pinned_pre}
+use Rattle.rw_meaning.proofs.Tests.{same_bytes, bytes_same}
+use Rattle.rw_derived.specs.Causes.{each_is}
+use Rattle.rw_derived.specs.Derived.{pins_for, constants_for, constant, with_constants, with_constant, sort_or_int, pinned, pinned_pre}
 use Rattle.rw_laws.specs.Laws.{pin}
 use Rattle.rw_soundness.specs.Sound.{IsReady}
-use Rattle.rw_soundness.proofs.Bits.{left_false, right_false, is_false, listed_in, both_true}
+use Rattle.rw_soundness.proofs.Bits.{listed_in}
 use Rattle.rw_soundness.proofs.Bridges.{term_agrees}
 use Rattle.rw_soundness.proofs.Causes.{Naming, Pinning}
 use Rattle.rw_soundness.proofs.Ready.{scope_agrees, initial_of_frame}
@@ -89,7 +90,7 @@ module _ (scope : List Entry) (heads : List Head) (w : Spec) (ready : IsReady sc
     own = ((sort_taken (sort_in scope [] t) sorted.0 sorted.1, refl), tt)
 
     pub new : each_is (λ y. is_fresh y scope) (x ∷ []) ≡ true
-    new = both_true _ _ tests.fresh refl
+    new = and_from _ _ tests.fresh refl
 
     -- the term has in the wider state the value that it had
     same_term : (s s' : State) → ((y : Name) → (find (has_name y) scope ≡ None → ⊥) → s'.own y ≡ s.own y) → value s'.own s'.own [] t ≡ value s.own s.own [] t
@@ -114,8 +115,8 @@ module _ (scope : List Entry) (heads : List Head) (w : Spec) (ready : IsReady sc
     abbrev pub own_entries : List Entry
     own_entries = constant x (sort_in scope [] t) ∷ []
 
-    pub con_sound : (fixed : Map) (E : Table) (p k : ℕ) (c : Prog) → Better fixed (with_constant scope x t) E p k w.frame (pinned_pre w x t) w.post c → Better fixed scope E p k w.frame w.pre w.post (Con (pin x t ∷ []) c)
-    con_sound fixed E p k c kid = blocks.block_sound scope own_pins own_entries own new refl fixed E p k w c in_scope body
+    pub con_sound : (fixed : Map) (others : Name → Map) (E : Table) (p k : ℕ) (c : Prog) → Better fixed others (with_constant scope x t) E p k w.frame (pinned_pre w x t) w.post c → Better fixed others scope E p k w.frame w.pre w.post (Con (pin x t ∷ []) c)
+    con_sound fixed others E p k c kid = blocks.block_sound scope own_pins own_entries own new refl fixed others E p k w c in_scope body
       where
         keeps : (s : State) (y : Name) → (find (has_name y) scope ≡ None → ⊥) → (begun own_pins s).own y ≡ s.own y
         keeps = blocks.begun_keeps scope own_pins own_entries own new refl
@@ -127,7 +128,7 @@ module _ (scope : List Entry) (heads : List Head) (w : Spec) (ready : IsReady sc
         has_value : (s : State) → value_in (begun own_pins s).own x ≡ value s.own s.own [] t
         has_value s = (λ i. given (if (bytes_same x x refl i) then Some (value s.own s.own [] t) else s.own x))
 
-        pre_holds : (s : State) → Fits scope s → Holds E.library w.pre s s → Holds E.library (pinned_pre w x t) (begun own_pins s) (begun own_pins s)
+        pre_holds : (s : State) → FitsBeside others scope s → Holds E.library w.pre s s → Holds E.library (pinned_pre w x t) (begun own_pins s) (begun own_pins s)
         pre_holds s fits pre =
             let s' = begun own_pins s in
             let fits' = blocks.begun_fits scope own_pins own_entries own new refl s fits in
@@ -139,7 +140,7 @@ module _ (scope : List Entry) (heads : List Head) (w : Spec) (ready : IsReady sc
             (from_layer (predicates_of (reverse E.library)) (value_in s'.own) (value_in s'.own) (value_in s'.own) (Formula-F.Eq (v.Const x) t) [] equal) in
             (conj_with_holds (with_constant scope x t) E.library s'.own s'.own fits'.names fits'.names w.pre (formula.Eq (v.Const x) t ∷ [])).1 (before, (equation, tt))
 
-        body : (s : State) → Fits scope s → HasValues scope fixed s → Holds E.library w.pre s s
+        body : (s : State) → FitsBeside others scope s → HasValues scope fixed s → Holds E.library w.pre s s
             → Sure E p k c (begun own_pins s) × ((m : State) → MayEnd E p k c (begun own_pins s) m → Within w.frame (begun own_pins s) m × Holds E.library w.post s (left own_pins m))
         body s fits has pre =
             let inside = kid (begun own_pins s) (blocks.begun_fits scope own_pins own_entries own new refl s fits) (blocks.begun_has scope own_pins own_entries own new refl fixed s has) (pre_holds s fits pre) in (
@@ -171,12 +172,8 @@ module _ (scope : List Entry) (heads : List Head) (w : Spec) (ready : IsReady sc
     entries_are (y ∷ frame) [] there e = absurd (cc)
     entries_are (y ∷ frame) (c ∷ cs) there e = (
       (var_sort scope y ∙ sort_there (variable_sort scope y) (there y (ap (λ b. b || is_in y frame) (bytes_same y y refl))), refl),
-      entries_are frame cs (λ z i. there z (later (bytes_eq z y) (is_in z frame) i)) (lower (length frame) (length cs) e),
+      entries_are frame cs (λ z i. there z (or_right (bytes_eq z y) (is_in z frame) i)) (lower (length frame) (length cs) e),
     )
-      where
-        later : (a b : Bool) → b ≡ true → (a || b) ≡ true
-        later true b i = refl
-        later false b i = i
 
     pub are : AreFor scope pins es
     are = entries_are w.frame names ready.variables long
@@ -191,14 +188,10 @@ module _ (scope : List Entry) (heads : List Head) (w : Spec) (ready : IsReady sc
     named = same_names w.frame names long
 
     pub fresh : each_is (λ y. is_fresh y scope) (entry_names es) ≡ true
-    fresh = ap (each_is (λ y. is_fresh y scope)) named ∙ left_true (each_is (λ y. is_fresh y scope) names) (not (is_twice names)) tests.fresh
+    fresh = ap (each_is (λ y. is_fresh y scope)) named ∙ (and_parts (each_is (λ y. is_fresh y scope) names) (not (is_twice names)) tests.fresh).0
 
     pub apart : is_twice names ≡ false
-    apart = not_false (is_twice names) (right_true (each_is (λ y. is_fresh y scope) names) (not (is_twice names)) tests.fresh)
-      where
-        not_false : (b : Bool) → not b ≡ true → b ≡ false
-        not_false true e = absurd (true≢false (sym e))
-        not_false false e = refl
+    apart = not-true (is_twice names) (and_parts (each_is (λ y. is_fresh y scope) names) (not (is_twice names)) tests.fresh).1
 
     pub once : is_twice (entry_names es) ≡ false
     once = ap is_twice named ∙ apart
@@ -209,12 +202,8 @@ module _ (scope : List Entry) (heads : List Head) (w : Spec) (ready : IsReady sc
     moved s m m' (y ∷ frame) [] same h = tt
     moved s m m' (y ∷ frame) (c ∷ cs) same h = (
       same c (ap (λ b. b || is_in c cs) (bytes_same c c refl)) ∙ h.0,
-      moved s m m' frame cs (λ d i. same d (later (bytes_eq d c) (is_in d cs) i)) h.1,
+      moved s m m' frame cs (λ d i. same d (or_right (bytes_eq d c) (is_in d cs) i)) h.1,
     )
-      where
-        later : (a b : Bool) → b ≡ true → (a || b) ≡ true
-        later true b i = refl
-        later false b i = i
 
     -- constants that are put hold
     put_hold : (s : State) → ((y : Name) → is_in y w.frame ≡ true → Some (value s.own s.own [] (v.Var y)) ≡ s.own y) → (frame cs : List Name) → ((y : Name) → is_in y frame ≡ true → is_in y w.frame ≡ true)
@@ -224,20 +213,16 @@ module _ (scope : List Entry) (heads : List Head) (w : Spec) (ready : IsReady sc
     put_hold s valued (y ∷ frame) (c ∷ cs) within e = (
       (λ i. if (bytes_same c c refl i) then Some (value s.own s.own [] (v.Var y)) else put_all (pin_names (pins_for frame cs)) (values (pin_terms (pins_for frame cs)) s) s.own c)
           ∙ valued y (within y (ap (λ b. b || is_in y frame) (bytes_same y y refl))),
-      moved s.own (put_all (pin_names (pins_for frame cs)) (values (pin_terms (pins_for frame cs)) s) s.own) (put_all (pin_names (pins_for (y ∷ frame) (c ∷ cs))) (values (pin_terms (pins_for (y ∷ frame) (c ∷ cs))) s) s.own) frame cs (λ d i. behind d (bytes_eq d c) refl i) (put_hold s valued frame cs (λ z i. within z (later (bytes_eq z y) (is_in z frame) i)) (right_false (is_listed cs c) (is_twice cs) e)),
+      moved s.own (put_all (pin_names (pins_for frame cs)) (values (pin_terms (pins_for frame cs)) s) s.own) (put_all (pin_names (pins_for (y ∷ frame) (c ∷ cs))) (values (pin_terms (pins_for (y ∷ frame) (c ∷ cs))) s) s.own) frame cs (λ d i. behind d (bytes_eq d c) refl i) (put_hold s valued frame cs (λ z i. within z (or_right (bytes_eq z y) (is_in z frame) i)) (or_parts (is_listed cs c) (is_twice cs) e).1),
     )
       where
-        later : (a b : Bool) → b ≡ true → (a || b) ≡ true
-        later true b i = refl
-        later false b i = i
-
         behind : (d : Name) (b : Bool) → bytes_eq d c ≡ b → is_in d cs ≡ true → (if bytes_eq d c then Some (value s.own s.own [] (v.Var y)) else (put_all (pin_names (pins_for frame cs)) (values (pin_terms (pins_for frame cs)) s) s.own) d) ≡ (put_all (pin_names (pins_for frame cs)) (values (pin_terms (pins_for frame cs)) s) s.own) d
-        behind d true q i = absurd (true≢false (sym i ∙ (ap (λ z. is_in z cs) (same_bytes d c q) ∙ (sym (listed_in cs c) ∙ left_false (is_listed cs c) (is_twice cs) e))))
+        behind d true q i = absurd (true≢false (sym i ∙ (ap (λ z. is_in z cs) (same_bytes d c q) ∙ (sym (listed_in cs c) ∙ (or_parts (is_listed cs c) (is_twice cs) e).0))))
         behind d false q i = rw q
 
     -- the value of a variable of the frame
-    variable_valued : (s : State) → Fits scope s → (y : Name) → is_in y w.frame ≡ true → Some (value s.own s.own [] (v.Var y)) ≡ s.own y
-    variable_valued s fits y i = ap Some (plain_value (in_states s.own s.own) [] form.Variable y) ∙ there (find (has_name y) scope) refl (s.own y) (fits.names y)
+    variable_valued : (s : State) → FitsMap scope s.own → (y : Name) → is_in y w.frame ≡ true → Some (value s.own s.own [] (v.Var y)) ≡ s.own y
+    variable_valued s fits y i = ap Some (plain_value (in_states s.own s.own) [] form.Variable y) ∙ there (find (has_name y) scope) refl (s.own y) (fits y)
       where
         there : (o : Option Entry) → find (has_name y) scope ≡ o → (u : Option Value) → FitsEntry o u → Some (given u) ≡ u
         there None n u a = absurd (in_scope y i n)
@@ -252,10 +237,10 @@ module _ (scope : List Entry) (heads : List Head) (w : Spec) (ready : IsReady sc
 
     -- no constant is in the frame
     outside_frame : (c : Name) → is_in c names ≡ true → is_in c w.frame ≡ false
-    outside_frame c i = is_false (is_in c w.frame) (λ j. true≢false (sym i ∙ (ap (is_in c) (sym (sym (blocks.names_are scope pins es are) ∙ named)) ∙ blocks.not_pinned scope pins es are fresh once c (in_scope c j))))
+    outside_frame c i = false_from_ne_true (is_in c w.frame) (λ j. true≢false (sym i ∙ (ap (is_in c) (sym (sym (blocks.names_are scope pins es are) ∙ named)) ∙ blocks.not_pinned scope pins es are fresh once c (in_scope c j))))
 
     -- the constants hold in every state within the frame of the one in which the body begins
-    pins_hold : (s : State) → Fits scope s → (m : State) → Within w.frame (begun pins s) m → PinsHold (begun pins s).own m.own w.frame names
+    pins_hold : (s : State) → FitsMap scope s.own → (m : State) → Within w.frame (begun pins s) m → PinsHold (begun pins s).own m.own w.frame names
     pins_hold s fits m within =
         first_kept w.frame names (λ y i. i) (moved s.own (begun pins s).own m.own w.frame names (λ c i. within.off c (outside_frame c i)) (put_hold s (variable_valued s fits) w.frame names (λ y i. i) apart))
       where
@@ -264,29 +249,25 @@ module _ (scope : List Entry) (heads : List Head) (w : Spec) (ready : IsReady sc
         first_kept (y ∷ frame) [] into h = tt
         first_kept (y ∷ frame) (c ∷ cs) into h = (
           h.0 ∙ sym (keeps s y (in_scope y (into y (ap (λ b. b || is_in y frame) (bytes_same y y refl))))),
-          first_kept frame cs (λ z i. into z (later (bytes_eq z y) (is_in z frame) i)) h.1,
+          first_kept frame cs (λ z i. into z (or_right (bytes_eq z y) (is_in z frame) i)) h.1,
         )
-          where
-            later : (a b : Bool) → b ≡ true → (a || b) ≡ true
-            later true b i = refl
-            later false b i = i
 
     no_values : KeepsValues inner w.frame
     no_values x i = ap is_value_entry (blocks.found_before scope pins es are fresh once x (in_scope x i)) ∙ ready.no_values x i
 
-    pub seqcon_sound : (fixed : Map) (E : Table) (p k : ℕ) (c d : Prog) → Better fixed inner E p k w.frame w.pre f c → Better fixed inner E p k w.frame (pinned w.frame names f) (pinned w.frame names w.post) d
-        → Better fixed scope E p k w.frame w.pre w.post (Con pins (Seq c d))
-    seqcon_sound fixed E p k c d one two = blocks.block_sound scope pins es are fresh once fixed E p k w (Seq c d) in_scope body
+    pub seqcon_sound : (fixed : Map) (others : Name → Map) (E : Table) (p k : ℕ) (c d : Prog) → Better fixed others inner E p k w.frame w.pre f c → Better fixed others inner E p k w.frame (pinned w.frame names f) (pinned w.frame names w.post) d
+        → Better fixed others scope E p k w.frame w.pre w.post (Con pins (Seq c d))
+    seqcon_sound fixed others E p k c d one two = blocks.block_sound scope pins es are fresh once fixed others E p k w (Seq c d) in_scope body
       where
-        second : (s : State) → Fits scope s → HasValues scope fixed s → (m : State) → Within w.frame (begun pins s) m × Holds E.library f (begun pins s) m
+        second : (s : State) → FitsBeside others scope s → HasValues scope fixed s → (m : State) → Within w.frame (begun pins s) m × Holds E.library f (begun pins s) m
             → Sure E p k d m × ((n : State) → MayEnd E p k d m n → Within w.frame m n × Holds E.library (pinned w.frame names w.post) m n)
         second s fits has m i =
             let fits' = blocks.begun_fits scope pins es are fresh once s fits in
             let has' = blocks.begun_has scope pins es are fresh once fixed s has in
             two m (within_fits inner w.frame (begun pins s) m fits' i.0) (within_values inner fixed w.frame (begun pins s) m no_values has' i.0)
-            ((pinned_holds (begun pins s).own m.own E.library f m.own w.frame names long (pins_hold s fits m i.0) (initial_of_frame w.frame f tests.initial)).1 i.1)
+            ((pinned_holds (begun pins s).own m.own E.library f m.own w.frame names long (pins_hold s fits.names m i.0) (initial_of_frame w.frame f tests.initial)).1 i.1)
 
-        body : (s : State) → Fits scope s → HasValues scope fixed s → Holds E.library w.pre s s
+        body : (s : State) → FitsBeside others scope s → HasValues scope fixed s → Holds E.library w.pre s s
             → Sure E p k (Seq c d) (begun pins s) × ((m : State) → MayEnd E p k (Seq c d) (begun pins s) m → Within w.frame (begun pins s) m × Holds E.library w.post s (left pins m))
         body s fits has pre =
             let fits' = blocks.begun_fits scope pins es are fresh once s fits in
@@ -296,6 +277,6 @@ module _ (scope : List Entry) (heads : List Head) (w : Spec) (ready : IsReady sc
               (first.0, λ m e. (second s fits has m (first.1 m e)).0),
               λ n e. let i = first.1 e.0 e.1 in let j = (second s fits has e.0 i).1 n e.2 in
                   let within = within_trans w.frame (begun pins s) e.0 n i.0 j.0 in
-                  let after = (pinned_holds (begun pins s).own n.own E.library w.post e.0.own w.frame names long (pins_hold s fits n within) (initial_of_frame w.frame w.post ready.initial)).0 j.1 in
+                  let after = (pinned_holds (begun pins s).own n.own E.library w.post e.0.own w.frame names long (pins_hold s fits.names n within) (initial_of_frame w.frame w.post ready.initial)).0 j.1 in
                   (within, (scope_agrees scope heads w.post ready.post.1 E.library (begun pins s).own n.own s.own (left pins n).own (λ y q. (keeps s y q, sym (leaves n y q)))).0 after),
             )

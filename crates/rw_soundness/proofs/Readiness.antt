@@ -1,5 +1,6 @@
 -- What each law leaves to its kids is well-formed where it stands.
 use Rattle.std.proofs.Common.{◌≡◌, Bool, true, false, not, if◌then◌else◌, ◌||◌, is_some, List, [], ◌∷◌, ◌++◌, map, find, Option, Some, None, refl, sym, ap, ◌∙◌, true≢false, eqb-true, eq-eqb}
+use Rattle.std.proofs.lemmas.Bool.{and_parts, false_from_ne_true, not-false, or_from, or_left, or_parts, or_right}
 use Rattle.std.specs.Prelude.{bytes_eq, option_and_then}
 use Rattle.std.specs.List.{list_any}
 use Rattle.rw_terms.specs.declared.scope.Entry.{Entry}
@@ -28,11 +29,11 @@ use Rattle.rw_programs.specs.declared.prog.Spec.{Spec}
 use Rattle.rw_programs.specs.State.{Name, is_in}
 use Rattle.rw_programs.specs.Refine.{is_value, is_value_entry, is_value_kind}
 use Rattle.rw_programs.specs.Scoped.{each_set}
-use Rattle.rw_meaning.proofs.Tests.{left_true, right_true, same_bytes, bytes_same}
-use Rattle.rw_laws.specs.Causes.{new_cause, is_kind, is_entry_of, is_fixed_kind}
-use Rattle.rw_laws.specs.Derived.{set_to, followed_post, without, contracted_post, keeps_value, expanded_post}
+use Rattle.rw_meaning.proofs.Tests.{same_bytes, bytes_same}
+use Rattle.rw_derived.specs.Causes.{new_cause, is_kind, is_entry_of, is_fixed_kind}
+use Rattle.rw_derived.specs.Derived.{set_to, followed_post, without, contracted_post, keeps_value, expanded_post}
 use Rattle.rw_soundness.specs.Sound.{IsReady}
-use Rattle.rw_soundness.proofs.Bits.{left_false, right_false, both_false, either, is_false, listed_in, of_not}
+use Rattle.rw_soundness.proofs.Bits.{either, listed_in}
 use Rattle.rw_soundness.proofs.Causes.{new_tests, Assigning, Expanding}
 use Rattle.rw_soundness.proofs.Replaced.{KeepsSorts, replaced_keeps}
 use Rattle.rw_soundness.proofs.Outside.{Leaves, replaced_outside}
@@ -91,36 +92,36 @@ set_sorts : (scope : List Entry) (names : List Name) (terms : List Term) → eac
 set_sorts scope [] terms e g x s h b = plain_sort scope g x b ∙ h
 set_sorts scope (y ∷ names) [] e g x s h b = plain_sort scope g x b ∙ h
 set_sorts scope (y ∷ names) (t ∷ terms) e form.Variable x s h b =
-    one (bytes_eq x y) refl (set_sorts scope names terms (right_true (may_equal_of (variable_sort scope y) (sort_in scope [] t)) (each_set scope names terms) e) form.Variable x s h b)
+    one (bytes_eq x y) refl (set_sorts scope names terms (and_parts (may_equal_of (variable_sort scope y) (sort_in scope [] t)) (each_set scope names terms) e).1 form.Variable x s h b)
   where
     one : (c : Bool) → bytes_eq x y ≡ c → sort_in scope b (changed (set_to names terms) form.Variable x) ≡ Some s → sort_in scope b (changed (set_to (y ∷ names) (t ∷ terms)) form.Variable x) ≡ Some s
     one true i rest =
         let of_y = ap (variable_sort scope) (sym (same_bytes x y i)) ∙ h in
-        let here = equal_is (variable_sort scope y) (sort_in scope [] t) (left_true (may_equal_of (variable_sort scope y) (sort_in scope [] t)) (each_set scope names terms) e) ∙ of_y in
+        let here = equal_is (variable_sort scope y) (sort_in scope [] t) (and_parts (may_equal_of (variable_sort scope y) (sort_in scope [] t)) (each_set scope names terms) e).0 ∙ of_y in
         (λ j. sort_in scope b (if (i j) then t else changed (set_to names terms) form.Variable x)) ∙ (sort_under scope b t s here ∙ here)
     one false i rest = (λ j. sort_in scope b (if (i j) then t else changed (set_to names terms) form.Variable x)) ∙ rest
 set_sorts scope (y ∷ names) (t ∷ terms) e form.Initial x s h b =
-    set_sorts scope names terms (right_true (may_equal_of (variable_sort scope y) (sort_in scope [] t)) (each_set scope names terms) e) form.Initial x s h b
+    set_sorts scope names terms (and_parts (may_equal_of (variable_sort scope y) (sort_in scope [] t)) (each_set scope names terms) e).1 form.Initial x s h b
 set_sorts scope (y ∷ names) (t ∷ terms) e form.Constant x s h b =
-    set_sorts scope names terms (right_true (may_equal_of (variable_sort scope y) (sort_in scope [] t)) (each_set scope names terms) e) form.Constant x s h b
+    set_sorts scope names terms (and_parts (may_equal_of (variable_sort scope y) (sort_in scope [] t)) (each_set scope names terms) e).1 form.Constant x s h b
 
 -- and bring no initial variable
 set_outside : (left names : List Name) (terms : List Term) → terms_outside left terms ≡ false → Leaves left left (set_to names terms)
 set_outside left [] terms o g x h = plain_outside left g x ∙ h
 set_outside left (y ∷ names) [] o g x h = plain_outside left g x ∙ h
 set_outside left (y ∷ names) (t ∷ terms) o form.Variable x h =
-    one (bytes_eq x y) refl (set_outside left names terms (right_false (term_outside left t) (terms_outside left terms) o) form.Variable x h)
+    one (bytes_eq x y) refl (set_outside left names terms (or_parts (term_outside left t) (terms_outside left terms) o).1 form.Variable x h)
   where
     one : (c : Bool) → bytes_eq x y ≡ c → term_outside left (changed (set_to names terms) form.Variable x) ≡ false → term_outside left (changed (set_to (y ∷ names) (t ∷ terms)) form.Variable x) ≡ false
-    one true i rest = (λ j. term_outside left (if (i j) then t else changed (set_to names terms) form.Variable x)) ∙ left_false (term_outside left t) (terms_outside left terms) o
+    one true i rest = (λ j. term_outside left (if (i j) then t else changed (set_to names terms) form.Variable x)) ∙ (or_parts (term_outside left t) (terms_outside left terms) o).0
     one false i rest = (λ j. term_outside left (if (i j) then t else changed (set_to names terms) form.Variable x)) ∙ rest
-set_outside left (y ∷ names) (t ∷ terms) o form.Initial x h = set_outside left names terms (right_false (term_outside left t) (terms_outside left terms) o) form.Initial x h
-set_outside left (y ∷ names) (t ∷ terms) o form.Constant x h = set_outside left names terms (right_false (term_outside left t) (terms_outside left terms) o) form.Constant x h
+set_outside left (y ∷ names) (t ∷ terms) o form.Initial x h = set_outside left names terms (or_parts (term_outside left t) (terms_outside left terms) o).1 form.Initial x h
+set_outside left (y ∷ names) (t ∷ terms) o form.Constant x h = set_outside left names terms (or_parts (term_outside left t) (terms_outside left terms) o).1 form.Constant x h
 
 terms_more : (left : List Name) (terms : List Term) → terms_outside [] terms ≡ false → terms_outside left terms ≡ false
 terms_more left [] o = refl
 terms_more left (t ∷ terms) o =
-    both_false _ _ (term_outside_more [] left t (none_listed left) (left_false (term_outside [] t) (terms_outside [] terms) o)) (terms_more left terms (right_false (term_outside [] t) (terms_outside [] terms) o))
+    or_from _ _ (term_outside_more [] left t (none_listed left) (or_parts (term_outside [] t) (terms_outside [] terms) o).0) (terms_more left terms (or_parts (term_outside [] t) (terms_outside [] terms) o).1)
 
 module _ (scope : List Entry) (heads : List Head) (w : Spec) (ready : IsReady scope heads w) where
   pub follow_ready : (names : List Name) (terms : List Term) → Assigning scope w names terms → is_small (followed_post scope w names terms) ≡ true
@@ -154,7 +155,7 @@ kept_in names (y ∷ frame) x i out = go (not (is_listed names y)) refl (bytes_e
     go : (b : Bool) → not (is_listed names y) ≡ b → (c : Bool) → bytes_eq x y ≡ c → (is_in x frame ≡ true → is_in x (without names frame) ≡ true) → is_in x (without names (y ∷ frame)) ≡ true
     go true t true e ih = rw t (rw e)
     go true t false e ih = rw t (rw e (ih (sym (ap (λ d. d || is_in x frame) e) ∙ i)))
-    go false t true e ih = absurd (true≢false (sym (of_not (is_listed names y) t) ∙ (listed_in names y ∙ (ap (λ z. is_in z names) (sym (same_bytes x y e)) ∙ out))))
+    go false t true e ih = absurd (true≢false (sym (not-false (is_listed names y) t) ∙ (listed_in names y ∙ (ap (λ z. is_in z names) (sym (same_bytes x y e)) ∙ out))))
     go false t false e ih = rw t (ih (sym (ap (λ d. d || is_in x frame) e) ∙ i))
 
 -- what is left is of the frame
@@ -162,10 +163,6 @@ left_of : (names frame : List Name) (x : Name) → is_in x (without names frame)
 left_of names [] x i = i
 left_of names (y ∷ frame) x i = go (not (is_listed names y)) refl i (left_of names frame x)
   where
-    later : (a b : Bool) → b ≡ true → (a || b) ≡ true
-    later true b h = refl
-    later false b h = h
-
     taken : not (is_listed names y) ≡ true → is_in x (without names (y ∷ frame)) ≡ (bytes_eq x y || is_in x (without names frame))
     taken t = rw t
 
@@ -173,18 +170,18 @@ left_of names (y ∷ frame) x i = go (not (is_listed names y)) refl i (left_of n
     dropped t = rw t
 
     go : (b : Bool) → not (is_listed names y) ≡ b → is_in x (without names (y ∷ frame)) ≡ true → (is_in x (without names frame) ≡ true → is_in x frame ≡ true) → is_in x (y ∷ frame) ≡ true
-    go true t i ih = either (is_in x (y ∷ frame) ≡ true) (bytes_eq x y) (is_in x (without names frame)) (λ e. ap (λ d. d || is_in x frame) e) (λ k. later (bytes_eq x y) (is_in x frame) (ih k)) (sym (taken t) ∙ i)
-    go false t i ih = later (bytes_eq x y) (is_in x frame) (ih (sym (dropped t) ∙ i))
+    go true t i ih = either (is_in x (y ∷ frame) ≡ true) (bytes_eq x y) (is_in x (without names frame)) (λ e. ap (λ d. d || is_in x frame) e) (λ k. or_right (bytes_eq x y) (is_in x frame) (ih k)) (sym (taken t) ∙ i)
+    go false t i ih = or_right (bytes_eq x y) (is_in x frame) (ih (sym (dropped t) ∙ i))
 
 -- the names that are left differ
 still_differ : (names frame : List Name) → is_twice frame ≡ false → is_twice (without names frame) ≡ false
 still_differ names [] e = refl
-still_differ names (y ∷ frame) e = go (not (is_listed names y)) refl (still_differ names frame (right_false (is_listed frame y) (is_twice frame) e))
+still_differ names (y ∷ frame) e = go (not (is_listed names y)) refl (still_differ names frame (or_parts (is_listed frame y) (is_twice frame) e).1)
   where
     go : (b : Bool) → not (is_listed names y) ≡ b → is_twice (without names frame) ≡ false → is_twice (without names (y ∷ frame)) ≡ false
     go false t ih = rw t ih
     go true t ih =
-        rw t (both_false _ _ (is_false (is_listed (without names frame) y) (λ i. true≢false (sym (listed_in frame y ∙ left_of names frame y (sym (listed_in (without names frame) y) ∙ i)) ∙ left_false (is_listed frame y) (is_twice frame) e))) ih)
+        rw t (or_from _ _ (false_from_ne_true (is_listed (without names frame) y) (λ i. true≢false (sym (listed_in frame y ∙ left_of names frame y (sym (listed_in (without names frame) y) ∙ i)) ∙ (or_parts (is_listed frame y) (is_twice frame) e).0))) ih)
 
 back_outside : (names frame : List Name) → Leaves frame (without names frame) (map from_initial names)
 back_outside names frame form.Variable x h = past names
@@ -203,13 +200,13 @@ back_outside names frame form.Initial x h = found names (λ i. i)
     left = without names frame
 
     in_frame : is_in x frame ≡ true
-    in_frame = sym (listed_in frame x) ∙ of_not (is_listed frame x) h
+    in_frame = sym (listed_in frame x) ∙ not-false (is_listed frame x) h
 
     -- where the name is not among these, it is among those behind or is left
     found : (ns : List Name) → (is_in x names ≡ true → is_in x ns ≡ true) → term_outside (without names frame) (changed (map from_initial ns) form.Initial x) ≡ false
     found [] to =
         plain_outside (without names frame) form.Initial x
-        ∙ ap not (listed_in (without names frame) x ∙ kept_in names frame x in_frame (is_false (is_in x names) (λ i. true≢false (sym (to i)))))
+        ∙ ap not (listed_in (without names frame) x ∙ kept_in names frame x in_frame (false_from_ne_true (is_in x names) (λ i. true≢false (sym (to i)))))
     found (y ∷ ns) to = one (bytes_eq x y) refl (found ns)
       where
         one : (c : Bool) → bytes_eq x y ≡ c → ((is_in x names ≡ true → is_in x ns ≡ true) → term_outside (without names frame) (changed (map from_initial ns) form.Initial x) ≡ false)
@@ -260,7 +257,7 @@ module _ (scope : List Entry) (heads : List Head) (w : Spec) (ready : IsReady sc
   none_of : (test : Name → Bool) (xs : List Name) → list_any test xs ≡ false → (x : Name) → is_in x xs ≡ true → test x ≡ false
   none_of test [] e x i = absurd (true≢false (sym i))
   none_of test (y ∷ xs) e x i =
-      either (test x ≡ false) (bytes_eq x y) (is_in x xs) (λ q. ap test (same_bytes x y q) ∙ left_false (test y) (list_any test xs) e) (none_of test xs (right_false (test y) (list_any test xs) e) x) i
+      either (test x ≡ false) (bytes_eq x y) (is_in x xs) (λ q. ap test (same_bytes x y q) ∙ (or_parts (test y) (list_any test xs) e).0) (none_of test xs (or_parts (test y) (list_any test xs) e).1 x) i
 
   in_either : (xs ys : List Name) (x : Name) → is_in x (xs ++ ys) ≡ (is_in x xs || is_in x ys)
   in_either [] ys x = refl
@@ -273,9 +270,9 @@ module _ (scope : List Entry) (heads : List Head) (w : Spec) (ready : IsReady sc
   all_differ : (xs ys : List Name) → is_twice xs ≡ false → is_twice ys ≡ false → list_any (is_listed xs) ys ≡ false → is_twice (xs ++ ys) ≡ false
   all_differ [] ys a b c = b
   all_differ (x ∷ xs) ys a b c =
-      both_false _ _
-      (listed_in (xs ++ ys) x ∙ (in_either xs ys x ∙ both_false _ _ (sym (listed_in xs x) ∙ left_false (is_listed xs x) (is_twice xs) a) (is_false (is_in x ys) (λ i. true≢false (sym (first i) ∙ none_of (is_listed (x ∷ xs)) ys c x i)))))
-      (all_differ xs ys (right_false (is_listed xs x) (is_twice xs) a) b (fewer ys c))
+      or_from _ _
+      (listed_in (xs ++ ys) x ∙ (in_either xs ys x ∙ or_from _ _ (sym (listed_in xs x) ∙ (or_parts (is_listed xs x) (is_twice xs) a).0) (false_from_ne_true (is_in x ys) (λ i. true≢false (sym (first i) ∙ none_of (is_listed (x ∷ xs)) ys c x i)))))
+      (all_differ xs ys (or_parts (is_listed xs x) (is_twice xs) a).1 b (fewer ys c))
     where
       first : is_in x ys ≡ true → is_listed (x ∷ xs) x ≡ true
       first i = ap (λ b. b || is_listed xs x) (bytes_same x x refl)
@@ -283,25 +280,17 @@ module _ (scope : List Entry) (heads : List Head) (w : Spec) (ready : IsReady sc
       fewer : (zs : List Name) → list_any (is_listed (x ∷ xs)) zs ≡ false → list_any (is_listed xs) zs ≡ false
       fewer [] e = refl
       fewer (z ∷ zs) e =
-          both_false _ _ (right_false (bytes_eq z x) (is_listed xs z) (left_false (is_listed (x ∷ xs) z) (list_any (is_listed (x ∷ xs)) zs) e)) (fewer zs (right_false (is_listed (x ∷ xs) z) (list_any (is_listed (x ∷ xs)) zs) e))
-
-  later : (a b : Bool) → b ≡ true → (a || b) ≡ true
-  later true b h = refl
-  later false b h = h
-
-  front : (a b : Bool) → a ≡ true → (a || b) ≡ true
-  front true b h = refl
-  front false b h = absurd (true≢false (sym h))
+          or_from _ _ (or_parts (bytes_eq z x) (is_listed xs z) (or_parts (is_listed (x ∷ xs) z) (list_any (is_listed (x ∷ xs)) zs) e).0).1 (fewer zs (or_parts (is_listed (x ∷ xs) z) (list_any (is_listed (x ∷ xs)) zs) e).1)
 
   -- each of the added formulas
   keeps_fine : (xs : List Name) → ((x : Name) → is_in x xs ≡ true → is_some (variable_sort scope x) ≡ true) → ((x : Name) → is_in x xs ≡ true → is_in x (w.frame ++ names) ≡ true) → Each (IsFine scope heads (w.frame ++ names)) (map keeps_value xs)
   keeps_fine [] there into = tt
   keeps_fine (y ∷ xs) there into = (
     fine scope heads (w.frame ++ names) (Formula-F.Eq (v.Var y) (v.Init y)) (keeps_value y) (formula.rolls-Eq (v.Var y) (v.Init y))
-        ((λ i. may_equal_of (plain_sort scope form.Variable y [] i) (plain_sort scope form.Initial y [] i)) ∙ same_there (variable_sort scope y) (there y (front (bytes_eq y y) (is_in y xs) (bytes_same y y refl))))
-        (both_false _ _ (plain_outside (w.frame ++ names) form.Variable y)
-        (plain_outside (w.frame ++ names) form.Initial y ∙ ap not (listed_in (w.frame ++ names) y ∙ into y (front (bytes_eq y y) (is_in y xs) (bytes_same y y refl))))),
-    keeps_fine xs (λ x i. there x (later (bytes_eq x y) (is_in x xs) i)) (λ x i. into x (later (bytes_eq x y) (is_in x xs) i)),
+        ((λ i. may_equal_of (plain_sort scope form.Variable y [] i) (plain_sort scope form.Initial y [] i)) ∙ same_there (variable_sort scope y) (there y (or_left (bytes_eq y y) (is_in y xs) (bytes_same y y refl))))
+        (or_from _ _ (plain_outside (w.frame ++ names) form.Variable y)
+        (plain_outside (w.frame ++ names) form.Initial y ∙ ap not (listed_in (w.frame ++ names) y ∙ into y (or_left (bytes_eq y y) (is_in y xs) (bytes_same y y refl))))),
+    keeps_fine xs (λ x i. there x (or_right (bytes_eq x y) (is_in x xs) i)) (λ x i. into x (or_right (bytes_eq x y) (is_in x xs) i)),
   )
     where
       same_there : (o : Option Sort) → is_some o ≡ true → may_equal_of o o ≡ true
@@ -324,5 +313,5 @@ module _ (scope : List Entry) (heads : List Head) (w : Spec) (ready : IsReady sc
 
       all : IsFine scope heads (w.frame ++ names) (expanded_post w names)
       all = conj_with_fine scope heads (w.frame ++ names) w.post (map keeps_value names)
-          (ready.post.1, outside_more w.frame (w.frame ++ names) w.post (λ x h. listed_in (w.frame ++ names) x ∙ (in_either w.frame names x ∙ front (is_in x w.frame) (is_in x names) (sym (listed_in w.frame x) ∙ h))) ready.initial)
-          (keeps_fine names added (λ x i. in_either w.frame names x ∙ later (is_in x w.frame) (is_in x names) i))
+          (ready.post.1, outside_more w.frame (w.frame ++ names) w.post (λ x h. listed_in (w.frame ++ names) x ∙ (in_either w.frame names x ∙ or_left (is_in x w.frame) (is_in x names) (sym (listed_in w.frame x) ∙ h))) ready.initial)
+          (keeps_fine names added (λ x i. in_either w.frame names x ∙ or_right (is_in x w.frame) (is_in x names) i))

@@ -1,5 +1,6 @@
 -- What a well-formed specification gives: where its names stand, and states that agree on them.
-use Rattle.std.proofs.Common.{◌≡◌, ◌↔◌, Bool, true, false, ◌||◌, is_some, List, [], ◌∷◌, find, reverse, Option, Some, None, refl, sym, ap, ◌∙◌, true≢false}
+use Rattle.std.proofs.Common.{◌≡◌, ◌↔◌, true, false, is_some, List, [], ◌∷◌, find, reverse, Option, Some, None, refl, sym, ap, ◌∙◌, true≢false}
+use Rattle.std.proofs.lemmas.Bool.{and_from, false_from_ne_true, or_left, or_right}
 use Rattle.std.specs.Prelude.{option_and_then}
 use Rattle.rw_terms.specs.declared.scope.Entry.{Entry}
 use Rattle.rw_terms.specs.declared.scope.Head.{Head}
@@ -17,21 +18,14 @@ use Rattle.rw_subst.specs.Looks.{in_states}
 use Rattle.rw_subst.specs.Stands.{stands_in}
 use Rattle.rw_subst.specs.Kinds.{is_allowed_as}
 use Rattle.rw_subst.proofs.KindLemmas.{formula_allowed, names_have_one_kind}
-use Rattle.rw_programs.specs.State.{Name, State, Fits, SameSort, Within, is_in}
+use Rattle.rw_programs.specs.State.{Name, State, SameSort, Within, is_in}
 use Rattle.rw_programs.specs.Laws.{IsInitialFree}
+use Rattle.rw_programs.proofs.Beside.{FitsBeside}
 use Rattle.std.specs.Prelude.{bytes_eq}
 use Rattle.rw_meaning.proofs.Tests.{bytes_same}
-use Rattle.rw_soundness.proofs.Bits.{is_false, listed_in, both_true}
+use Rattle.rw_soundness.proofs.Bits.{listed_in}
 use Rattle.rw_soundness.proofs.Bridges.{agrees}
 use Rattle.rw_soundness.proofs.Initials.{initial_in, none_in}
-
-left_is_true : (a b : Bool) → a ≡ true → (a || b) ≡ true
-left_is_true true b e = refl
-left_is_true false b e = absurd (true≢false (sym e))
-
-right_is_true : (a b : Bool) → b ≡ true → (a || b) ≡ true
-right_is_true true b e = refl
-right_is_true false b e = e
 
 itself : (x : Name) → bytes_eq x x ≡ true
 itself x = bytes_same x x refl
@@ -40,12 +34,12 @@ module _ (scope : List Entry) (heads : List Head) (f : Formula) (kept : keeps_ru
   -- a variable of the scope does not stand as constant
   pub no_constant : (x : Name) → is_some (variable_sort scope x) ≡ true → stands_in form.Constant x f ≡ true → ⊥
   no_constant x variable h =
-      names_have_one_kind scope heads f [] (slot.Var x ∷ []) kept (both_true _ _ variable refl) x (right_is_true (stands_in form.Variable x f) _ (left_is_true (bytes_eq x x) false (itself x)))
-      (left_is_true (stands_in form.Constant x f) _ h)
+      names_have_one_kind scope heads f [] (slot.Var x ∷ []) kept (and_from _ _ variable refl) x (or_right (stands_in form.Variable x f) _ (or_left (bytes_eq x x) false (itself x)))
+      (or_left (stands_in form.Constant x f) _ h)
 
   -- so no name of a frame of variables does
   pub constants_off : (frame : List Name) → ((x : Name) → is_in x frame ≡ true → is_some (variable_sort scope x) ≡ true) → (x : Name) → stands_in form.Constant x f ≡ true → is_in x frame ≡ false
-  constants_off frame variables x h = is_false (is_in x frame) (λ i. no_constant x (variables x i) h)
+  constants_off frame variables x h = false_from_ne_true (is_in x frame) (λ i. no_constant x (variables x i) h)
 
   allowed_found : (g : Form) (x : Name) → is_allowed_as scope g x ≡ true → find (has_name x) scope ≡ None → ⊥
   allowed_found form.Variable x e n = true≢false (sym e ∙ ap (λ o. is_some (option_and_then (λ e. as_variable e.kind e.sort) o)) n)
@@ -87,7 +81,7 @@ fits_both (Some e) (Some u) None a b = absurd b
 fits_both (Some e) (Some u) (Some v) a b = (e.sort, a, b)
 
 -- states that fit one scope and agree off the frame are within it
-pub within_by_fits : (scope : List Entry) (frame : List Name) (s t : State) → Fits scope s → Fits scope t → ((x : Name) → is_in x frame ≡ false → t.own x ≡ s.own x) → Within frame s t
+pub within_by_fits : {others : Name → Map} (scope : List Entry) (frame : List Name) (s t : State) → FitsBeside others scope s → FitsBeside others scope t → ((x : Name) → is_in x frame ≡ false → t.own x ≡ s.own x) → Within frame s t
 within_by_fits scope frame s t fits fits' off = record {
   off = off;
   sorts = λ x i. fits_both (find (has_name x) scope) (s.own x) (t.own x) (fits.names x) (fits'.names x);

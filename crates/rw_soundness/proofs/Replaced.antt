@@ -1,5 +1,6 @@
 -- What is replaced keeps the rules of sorts, where what is put for a name has the name's sort.
 use Rattle.std.proofs.Common.{◌≡◌, ℕ, suc, Bool, true, is_some, List, [], ◌∷◌, map, find, Option, Some, None, refl, sym, ap, ◌∙◌, subst, true≢false}
+use Rattle.std.proofs.lemmas.Bool.{and_from, and_parts}
 use Rattle.rw_terms.specs.declared.scope.Entry.{Entry}
 use Rattle.rw_terms.specs.declared.scope.Head.{Head}
 use Rattle.rw_terms.specs.declared.term.Sort.{Sort}
@@ -23,9 +24,7 @@ use Rattle.rw_subst.specs.declared.slot.Change.{Change}
 use Rattle.rw_subst.specs.Slots.{changed}
 use Rattle.rw_subst.specs.Leaves.{rebuilt_step, rebuilt_term, rebuilt_formula_step, rebuilt_formula}
 use Rattle.rw_subst.specs.Replaced.{changed_leaves, replaced_formula}
-use Rattle.rw_subst.proofs.ClosedTerms.{both_left, both_right}
 use Rattle.rw_subst.proofs.WellSorted.{int_part, int_parts, read_parts, put_parts, compared_parts, equal_parts}
-use Rattle.rw_soundness.proofs.Bits.{both_true}
 
 -- the sort of a name in a form
 abbrev pub form_sort : List Entry → Form → List ℕ → Option Sort
@@ -110,8 +109,8 @@ module _ (scope inner : List Entry) (changes : List Change) where
     args_kept ss [] e = refl
     args_kept [] (t ∷ ts) e = absurd (true≢false (sym e))
     args_kept (s ∷ ss) (t ∷ ts) e =
-        let there = has_sort s (old t) (both_left (is_of s (old t)) (are_of ss (map old ts)) e) in
-        λ i. sort_kept t there.0 there.1 i ∷ args_kept ss ts (both_right (is_of s (old t)) (are_of ss (map old ts)) e) i
+        let there = has_sort s (old t) ((and_parts (is_of s (old t)) (are_of ss (map old ts)) e).0) in
+        λ i. sort_kept t there.0 there.1 i ∷ args_kept ss ts ((and_parts (is_of s (old t)) (are_of ss (map old ts)) e).1) i
 
     applied_kept : (o : Option Head) (ts : List Term) → applies o (map old ts) ≡ true → applies o (map new (map re ts)) ≡ true
     applied_kept None ts e = e
@@ -152,19 +151,19 @@ module _ (scope inner : List Entry) (changes : List Change) where
     formula_layer (Formula-F.Not f) k b e = made_formula (Formula-F.Not (ref f.0 k)) _ b (formula.rolls-Not _) (f.1 k b e)
     formula_layer (Formula-F.And f g) k b e =
         made_formula (Formula-F.And (ref f.0 k) (ref g.0 k)) _ b (formula.rolls-And _ _)
-        (both_true _ _ (f.1 k b (both_left (keeps_rules scope heads f.0 b) (keeps_rules scope heads g.0 b) e)) (g.1 k b (both_right (keeps_rules scope heads f.0 b) (keeps_rules scope heads g.0 b) e)))
+        (and_from _ _ (f.1 k b ((and_parts (keeps_rules scope heads f.0 b) (keeps_rules scope heads g.0 b) e).0)) (g.1 k b ((and_parts (keeps_rules scope heads f.0 b) (keeps_rules scope heads g.0 b) e).1)))
     formula_layer (Formula-F.Or f g) k b e =
         made_formula (Formula-F.Or (ref f.0 k) (ref g.0 k)) _ b (formula.rolls-Or _ _)
-        (both_true _ _ (f.1 k b (both_left (keeps_rules scope heads f.0 b) (keeps_rules scope heads g.0 b) e)) (g.1 k b (both_right (keeps_rules scope heads f.0 b) (keeps_rules scope heads g.0 b) e)))
+        (and_from _ _ (f.1 k b ((and_parts (keeps_rules scope heads f.0 b) (keeps_rules scope heads g.0 b) e).0)) (g.1 k b ((and_parts (keeps_rules scope heads f.0 b) (keeps_rules scope heads g.0 b) e).1)))
     formula_layer (Formula-F.Imp f g) k b e =
         made_formula (Formula-F.Imp (ref f.0 k) (ref g.0 k)) _ b (formula.rolls-Imp _ _)
-        (both_true _ _ (f.1 k b (both_left (keeps_rules scope heads f.0 b) (keeps_rules scope heads g.0 b) e)) (g.1 k b (both_right (keeps_rules scope heads f.0 b) (keeps_rules scope heads g.0 b) e)))
+        (and_from _ _ (f.1 k b ((and_parts (keeps_rules scope heads f.0 b) (keeps_rules scope heads g.0 b) e).0)) (g.1 k b ((and_parts (keeps_rules scope heads f.0 b) (keeps_rules scope heads g.0 b) e).1)))
     formula_layer (Formula-F.All s f) k b e =
         made_formula (Formula-F.All s (ref f.0 (suc k))) _ b (formula.rolls-All _ _)
-        (both_true _ _ (both_left (is_sort s) (keeps_rules scope heads f.0 (s ∷ b)) e) (f.1 (suc k) (s ∷ b) (both_right (is_sort s) (keeps_rules scope heads f.0 (s ∷ b)) e)))
+        (and_from _ _ ((and_parts (is_sort s) (keeps_rules scope heads f.0 (s ∷ b)) e).0) (f.1 (suc k) (s ∷ b) ((and_parts (is_sort s) (keeps_rules scope heads f.0 (s ∷ b)) e).1)))
     formula_layer (Formula-F.Any s f) k b e =
         made_formula (Formula-F.Any s (ref f.0 (suc k))) _ b (formula.rolls-Any _ _)
-        (both_true _ _ (both_left (is_sort s) (keeps_rules scope heads f.0 (s ∷ b)) e) (f.1 (suc k) (s ∷ b) (both_right (is_sort s) (keeps_rules scope heads f.0 (s ∷ b)) e)))
+        (and_from _ _ ((and_parts (is_sort s) (keeps_rules scope heads f.0 (s ∷ b)) e).0) (f.1 (suc k) (s ∷ b) ((and_parts (is_sort s) (keeps_rules scope heads f.0 (s ∷ b)) e).1)))
     formula_layer (Formula-F.App p args) k b e =
         made_formula (Formula-F.App p (map (re leaf k b) args)) _ b (formula.rolls-App _ _) (applied_kept leaf k b (find (is_head p) heads) args e)
 

@@ -24,7 +24,7 @@ use Rattle.rw_subst.proofs.Replacing.{initial_changes_are_closed}
 use Rattle.rw_programs.specs.State.{Name, State, is_in, put_all}
 use Rattle.rw_programs.specs.Meaning.{values}
 use Rattle.rw_meaning.proofs.Tests.{same_bytes}
-use Rattle.rw_laws.specs.Derived.{set_to, pinned_to}
+use Rattle.rw_derived.specs.Derived.{set_to, pinned_to}
 use Rattle.rw_soundness.proofs.Bridges.{bridge}
 
 -- a look-up with one more change in front

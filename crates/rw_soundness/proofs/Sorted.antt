@@ -1,5 +1,6 @@
 -- Terms that keep the rules of sorts have no loose binder; and where a term without initial variables is defined.
 use Rattle.std.proofs.Common.{◌≡◌, ◌≢◌, ℕ, pos, Bool, true, false, ◌||◌, ◌&&◌, List, [], ◌∷◌, map, Option, Some, refl, sym, ◌∙◌, subst}
+use Rattle.std.proofs.lemmas.Bool.{and_from, or_parts}
 use Rattle.rw_terms.specs.declared.scope.Entry.{Entry}
 use Rattle.rw_terms.specs.declared.term.Sort.{Sort}
 use Rattle.rw_terms.specs.declared.term.Sort.TheVariants.{Int, Array}
@@ -21,7 +22,6 @@ use Rattle.rw_subst.specs.Looks.{in_states}
 use Rattle.rw_subst.specs.Stands.{stands_in_term}
 use Rattle.rw_subst.proofs.Every.{OfParts, every_term}
 use Rattle.rw_subst.proofs.WellSorted.{int_part, int_parts, read_parts, put_parts}
-use Rattle.rw_soundness.proofs.Bits.{left_false, right_false, both_true}
 use Rattle.rw_soundness.proofs.Bridges.{term_agrees}
 use Rattle.rw_soundness.proofs.Initials.{none_in_term}
 
@@ -36,7 +36,7 @@ module _ (scope : List Entry) where
   under = map-Term Part Term (λ e. e.0)
 
   two : (a b : Part) (s : Sort) → of_ints (sort_in scope [] a.0) (sort_in scope [] b.0) ≡ Some s → (is_closed a.0 && is_closed b.0) ≡ true
-  two a b s e = let parts = int_parts _ _ s e in both_true _ _ (a.1 Int parts.0) (b.1 Int parts.1)
+  two a b s e = let parts = int_parts _ _ s e in and_from _ _ (a.1 Int parts.0) (b.1 Int parts.1)
 
   layer : (y : Term-F Part) (s : Sort) → sort_step scope [] (map-Term Term (Option Sort) (sort_in scope []) (under y)) ≡ Some s → closed_step (map-Term Term Bool is_closed (under y)) ≡ true
   layer (Term-F.Lit n) s e = refl
@@ -50,9 +50,9 @@ module _ (scope : List Entry) where
   layer (Term-F.Mul a b) s e = two a b s e
   layer (Term-F.Div a b) s e = two a b s e
   layer (Term-F.Mod a b) s e = two a b s e
-  layer (Term-F.Read a i) s e = let parts = read_parts _ _ s e in both_true _ _ (a.1 (Array parts.length) parts.array) (i.1 Int parts.index)
+  layer (Term-F.Read a i) s e = let parts = read_parts _ _ s e in and_from _ _ (a.1 (Array parts.length) parts.array) (i.1 Int parts.index)
   layer (Term-F.Put a i z) s e =
-      let parts = put_parts _ _ _ s e in both_true _ _ (a.1 (Array parts.length) parts.array) (both_true _ _ (i.1 Int parts.index) (z.1 Int parts.item))
+      let parts = put_parts _ _ _ s e in and_from _ _ (a.1 (Array parts.length) parts.array) (and_from _ _ (i.1 Int parts.index) (z.1 Int parts.item))
   layer (Term-F.Fun f args) s e = absurd (cc)
 
   claim_at : (y : Term-F Part) → Claim (roll-Term (under y))
@@ -90,12 +90,12 @@ module _ (s0 s1 s : State) where
   within a i e h k = subst (λ v. IsIndex (whole (value s1 s [] i)) (cells v)) (same_value a e s0 s1 s) (subst (λ v. IsIndex (whole v) (cells (value s0 s [] a))) (same_value i h s0 s1 s) k)
 
   both_move : (a b : Moving) → (out a.0 || out b.0) ≡ false → Defined s0 s a.0 × Defined s0 s b.0 → Defined s1 s a.0 × Defined s1 s b.0
-  both_move a b e h = (a.1 (left_false (out a.0) (out b.0) e) h.0, b.1 (right_false (out a.0) (out b.0) e) h.1)
+  both_move a b e h = (a.1 (or_parts (out a.0) (out b.0) e).0 h.0, b.1 (or_parts (out a.0) (out b.0) e).1 h.1)
 
   args_move : (ts : List Moving) → any_of (map out (map (λ e. e.0) ts)) ≡ false → Each (Defined s0 s) (map (λ e. e.0) ts) → Each (Defined s1 s) (map (λ e. e.0) ts)
   args_move [] e h = tt
   args_move (t ∷ ts) e h =
-      let rest = any_of (map out (map (λ e. e.0) ts)) in (t.1 (left_false (out t.0) rest e) h.0, args_move ts (right_false (out t.0) rest e) h.1)
+      let rest = any_of (map out (map (λ e. e.0) ts)) in (t.1 (or_parts (out t.0) rest e).0 h.0, args_move ts (or_parts (out t.0) rest e).1 h.1)
 
   layer_moves : (y : Term-F Moving) → outside_step [] (map-Term Term Bool out (below y)) ≡ false → PartDefined s0 s (below y) × OfParts (Defined s0 s) (below y) → PartDefined s1 s (below y) × OfParts (Defined s1 s) (below y)
   layer_moves (Term-F.Lit n) e h = h
@@ -107,14 +107,14 @@ module _ (s0 s1 s : State) where
   layer_moves (Term-F.Add a b) e h = (tt, both_move a b e h.1)
   layer_moves (Term-F.Sub a b) e h = (tt, both_move a b e h.1)
   layer_moves (Term-F.Mul a b) e h = (tt, both_move a b e h.1)
-  layer_moves (Term-F.Div a b) e h = (divides b.0 (right_false (out a.0) (out b.0) e) h.0, both_move a b e h.1)
-  layer_moves (Term-F.Mod a b) e h = (divides b.0 (right_false (out a.0) (out b.0) e) h.0, both_move a b e h.1)
-  layer_moves (Term-F.Read a i) e h = (within a.0 i.0 (left_false (out a.0) (out i.0) e) (right_false (out a.0) (out i.0) e) h.0, both_move a i e h.1)
+  layer_moves (Term-F.Div a b) e h = (divides b.0 (or_parts (out a.0) (out b.0) e).1 h.0, both_move a b e h.1)
+  layer_moves (Term-F.Mod a b) e h = (divides b.0 (or_parts (out a.0) (out b.0) e).1 h.0, both_move a b e h.1)
+  layer_moves (Term-F.Read a i) e h = (within a.0 i.0 (or_parts (out a.0) (out i.0) e).0 (or_parts (out a.0) (out i.0) e).1 h.0, both_move a i e h.1)
   layer_moves (Term-F.Put a i z) e h =
-      let first = left_false (out a.0 || out i.0) (out z.0) e in
-      let array = left_false (out a.0) (out i.0) first in
-      let index = right_false (out a.0) (out i.0) first in
-      (within a.0 i.0 array index h.0, (a.1 array h.1.0, i.1 index h.1.1, z.1 (right_false (out a.0 || out i.0) (out z.0) e) h.1.2))
+      let first = (or_parts (out a.0 || out i.0) (out z.0) e).0 in
+      let array = (or_parts (out a.0) (out i.0) first).0 in
+      let index = (or_parts (out a.0) (out i.0) first).1 in
+      (within a.0 i.0 array index h.0, (a.1 array h.1.0, i.1 index h.1.1, z.1 (or_parts (out a.0 || out i.0) (out z.0) e).1 h.1.2))
   layer_moves (Term-F.Fun f ts) e h = (tt, args_move ts e h.1)
 
   moves_at : (y : Term-F Moving) → Moves (roll-Term (below y))

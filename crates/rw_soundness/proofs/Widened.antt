@@ -1,5 +1,6 @@
 -- What the laws of constants leave to their kids is well-formed in the wider scope.
 use Rattle.std.proofs.Common.{◌≡◌, ℕ, suc, Bool, true, false, if◌then◌else◌, ◌||◌, is_some, length, List, [], ◌∷◌, ◌++◌, find, Some, None, refl, sym, ap, ◌∙◌, true≢false}
+use Rattle.std.proofs.lemmas.Bool.{false_from_ne_true, not-false, or_from, or_parts, or_right}
 use Rattle.std.specs.Prelude.{bytes_eq, option_and_then}
 use Rattle.rw_terms.specs.declared.scope.Entry.{Entry}
 use Rattle.rw_terms.specs.declared.scope.Head.{Head}
@@ -10,7 +11,7 @@ use Rattle.rw_terms.specs.declared.term.Formula.{Formula}
 use Rattle.rw_terms.specs.declared.term.Formula.TheVariants as formula
 use Rattle.rw_terms.specs.declared.term.Formula.TheOpen.{Formula-F}
 use Rattle.rw_terms.specs.Scopes.{has_name, is_fresh}
-use Rattle.rw_terms.specs.Sorts.{as_variable, as_constant, variable_sort, constant_sort}
+use Rattle.rw_terms.specs.Sorts.{as_constant, variable_sort, constant_sort}
 use Rattle.rw_terms.specs.Rules.{may_equal_of, sort_in}
 use Rattle.rw_faults.specs.Limits.{is_small}
 use Rattle.rw_faults.specs.Initial.{is_listed, is_twice, term_outside}
@@ -22,10 +23,10 @@ use Rattle.rw_programs.specs.declared.prog.Pin.{Pin}
 use Rattle.rw_programs.specs.State.{Name, is_in}
 use Rattle.rw_programs.specs.Refine.{is_value, is_value_entry}
 use Rattle.rw_meaning.proofs.Tests.{same_bytes, bytes_same}
-use Rattle.rw_laws.specs.Causes.{each_is}
-use Rattle.rw_laws.specs.Derived.{with_constants, with_constant, constants_for, constant, sort_or_int, pinned_to, pinned, pinned_pre}
+use Rattle.rw_derived.specs.Causes.{each_is}
+use Rattle.rw_derived.specs.Derived.{with_constants, with_constant, constants_for, constant, sort_or_int, pinned_to, pinned, pinned_pre}
 use Rattle.rw_soundness.specs.Sound.{IsReady}
-use Rattle.rw_soundness.proofs.Bits.{left_false, right_false, both_false, is_false, listed_in, of_not}
+use Rattle.rw_soundness.proofs.Bits.{listed_in}
 use Rattle.rw_soundness.proofs.Causes.{Naming, Pinning}
 use Rattle.rw_soundness.proofs.Constants as blocks
 use Rattle.rw_soundness.proofs.Constants.{AreFor, entry_names}
@@ -99,7 +100,7 @@ module _ (scope : List Entry) (heads : List Head) (w : Spec) (ready : IsReady sc
         equation =
             fine (with_constant scope x t) heads [] (Formula-F.Eq (v.Const x) t) (formula.Eq (v.Const x) t) (formula.rolls-Eq (v.Const x) t)
             ((λ i. may_equal_of (constant_there i) (sort_wider scope (with_constant scope x t) t sort wider_here sorted i)) ∙ itself sort)
-            (both_false _ _ (plain_outside [] form.Constant x) tests.no_initial)
+            (or_from _ _ (plain_outside [] form.Constant x) tests.no_initial)
 
         both : IsFine (with_constant scope x t) heads [] (pinned_pre w x t)
         both = and_fine (with_constant scope x t) heads [] w.pre (formula.Eq (v.Const x) t) (keeps_wider scope (with_constant scope x t) heads w.pre wider_here ready.pre.1, ready.no_initial) equation
@@ -115,52 +116,32 @@ module _ (scope : List Entry) (heads : List Head) (w : Spec) (ready : IsReady sc
   move there more (y ∷ frame) [] same h = tt
   move there more (y ∷ frame) (c ∷ names) same h = (
     same_form there more form.Constant c (same c (ap (λ b. b || is_in c names) (bytes_same c c refl))) ∙ h.0,
-    move there more frame names (λ d i. same d (later (bytes_eq d c) (is_in d names) i)) h.1,
+    move there more frame names (λ d i. same d (or_right (bytes_eq d c) (is_in d names) i)) h.1,
   )
-    where
-      later : (a b : Bool) → b ≡ true → (a || b) ≡ true
-      later true b i = refl
-      later false b i = i
 
   pairs : (frame names : List Name) → ((y : Name) → is_in y frame ≡ true → is_some (variable_sort scope y) ≡ true) → is_twice names ≡ false → PairSorts (constants_for scope frame names) frame names
   pairs [] names there once = tt
   pairs (y ∷ frame) [] there once = tt
   pairs (y ∷ frame) (c ∷ names) there once = (
     ap (option_and_then (λ e. as_constant e.kind e.sort)) first ∙ sym (sort_there (variable_sort scope y) (there y (ap (λ b. b || is_in y frame) (bytes_same y y refl)))),
-    move (constants_for scope frame names) (constants_for scope (y ∷ frame) (c ∷ names)) frame names (λ d i. past d i) (pairs frame names (λ z i. there z (later (bytes_eq z y) (is_in z frame) i)) (right_false (is_listed names c) (is_twice names) once)),
+    move (constants_for scope frame names) (constants_for scope (y ∷ frame) (c ∷ names)) frame names (λ d i. past d i) (pairs frame names (λ z i. there z (or_right (bytes_eq z y) (is_in z frame) i)) (or_parts (is_listed names c) (is_twice names) once).1),
   )
     where
-      later : (a b : Bool) → b ≡ true → (a || b) ≡ true
-      later true b i = refl
-      later false b i = i
-
       first : find (has_name c) (constants_for scope (y ∷ frame) (c ∷ names)) ≡ Some (constant c (variable_sort scope y))
       first = let e = bytes_same c c refl in rw e
 
       past : (d : Name) → is_in d names ≡ true → find (has_name d) (constants_for scope (y ∷ frame) (c ∷ names)) ≡ find (has_name d) (constants_for scope frame names)
-      past d i = let e = is_false (bytes_eq c d) (λ q. true≢false (sym (listed_in names c ∙ (ap (λ z. is_in z names) (same_bytes c d q) ∙ i)) ∙ left_false (is_listed names c) (is_twice names) once)) in rw e
+      past d i = let e = false_from_ne_true (bytes_eq c d) (λ q. true≢false (sym (listed_in names c ∙ (ap (λ z. is_in z names) (same_bytes c d q) ∙ i)) ∙ (or_parts (is_listed names c) (is_twice names) once).0)) in rw e
 
   module _ (there : List Entry) where
     pinned_sorts : (frame names : List Name) → PairSorts there frame names → ((y : Name) → is_in y frame ≡ true → variable_sort there y ≡ variable_sort scope y) → KeepsSorts there there (pinned_to frame names)
     pinned_sorts [] names h same g x s e b = plain_sort there g x b ∙ e
     pinned_sorts (y ∷ frame) [] h same g x s e b = plain_sort there g x b ∙ e
-    pinned_sorts (y ∷ frame) (c ∷ names) h same form.Variable x s e b = pinned_sorts frame names h.1 (λ z i. same z (later (bytes_eq z y) (is_in z frame) i)) form.Variable x s e b
-      where
-        later : (a b : Bool) → b ≡ true → (a || b) ≡ true
-        later true b i = refl
-        later false b i = i
-    pinned_sorts (y ∷ frame) (c ∷ names) h same form.Constant x s e b = pinned_sorts frame names h.1 (λ z i. same z (later (bytes_eq z y) (is_in z frame) i)) form.Constant x s e b
-      where
-        later : (a b : Bool) → b ≡ true → (a || b) ≡ true
-        later true b i = refl
-        later false b i = i
+    pinned_sorts (y ∷ frame) (c ∷ names) h same form.Variable x s e b = pinned_sorts frame names h.1 (λ z i. same z (or_right (bytes_eq z y) (is_in z frame) i)) form.Variable x s e b
+    pinned_sorts (y ∷ frame) (c ∷ names) h same form.Constant x s e b = pinned_sorts frame names h.1 (λ z i. same z (or_right (bytes_eq z y) (is_in z frame) i)) form.Constant x s e b
     pinned_sorts (y ∷ frame) (c ∷ names) h same form.Initial x s e b =
-        one (bytes_eq x y) refl (pinned_sorts frame names h.1 (λ z i. same z (later (bytes_eq z y) (is_in z frame) i)) form.Initial x s e b)
+        one (bytes_eq x y) refl (pinned_sorts frame names h.1 (λ z i. same z (or_right (bytes_eq z y) (is_in z frame) i)) form.Initial x s e b)
       where
-        later : (a b : Bool) → b ≡ true → (a || b) ≡ true
-        later true b i = refl
-        later false b i = i
-
         one : (q : Bool) → bytes_eq x y ≡ q → sort_in there b (changed (pinned_to frame names) form.Initial x) ≡ Some s → sort_in there b (changed (pinned_to (y ∷ frame) (c ∷ names)) form.Initial x) ≡ Some s
         one true i rest =
             (λ j. sort_in there b (if (i j) then v.Const c else changed (pinned_to frame names) form.Initial x))
@@ -187,7 +168,7 @@ module _ (scope : List Entry) (heads : List Head) (w : Spec) (ready : IsReady sc
 
   pinned_outside : (frame names : List Name) → length frame ≡ length names → Leaves frame [] (pinned_to frame names)
   pinned_outside frame names long form.Variable x h = (others frame names x).0
-  pinned_outside frame names long form.Initial x h = gone frame names long x (sym (listed_in frame x) ∙ of_not (is_listed frame x) h)
+  pinned_outside frame names long form.Initial x h = gone frame names long x (sym (listed_in frame x) ∙ not-false (is_listed frame x) h)
   pinned_outside frame names long form.Constant x h = (others frame names x).1
 
   module _ (names : List Name) (f : Formula) (tests : Pinning scope heads w names f) where

@@ -16,8 +16,8 @@ use Rattle.rw_programs.specs.declared.applied.Child.{Child}
 use Rattle.rw_programs.specs.declared.applied.Applied.{Applied}
 use Rattle.rw_programs.specs.State.{Name, is_in}
 use Rattle.rw_programs.specs.Tables.{Table}
-use Rattle.rw_programs.specs.Refine.{is_value, RefinesGiven}
-use Rattle.rw_meaning.specs.Filling.{fill}
+use Rattle.rw_programs.specs.Refine.{is_value}
+use Rattle.rw_meaning.specs.Filling.{fill, RefinesIn}
 use Rattle.rw_laws.specs.declared.step.BasicStep.{BasicStep}
 use Rattle.rw_laws.specs.Laws.{fits, law_of}
 
@@ -32,19 +32,19 @@ pub record IsReady (scope : List Entry) (heads : List Head) (w : Spec) : Type 0 
   pub no_initial : initial_outside [] w.pre ≡ false
   pub initial : initial_outside w.frame w.post ≡ false
 
--- Each kid's program, from a number on, refines the kid's specification where it stands, at every state with these values of the
--- names of kind value.
+-- Each kid's program, from a number on, refines the kid's specification in the kid's context, with these values of the names of kind
+-- value.
 abbrev pub KidsMeet : Map → Table → (p k : ℕ) → (ℕ → Prog) → ℕ → List Child → Type 0
 KidsMeet fixed E p k kids n [] = Unit {0}
-KidsMeet fixed E p k kids n (c ∷ more) = RefinesGiven fixed c.context.scope E p k (prog.Spec c.spec) E p k (kids n) × KidsMeet fixed E p k kids (suc n) more
+KidsMeet fixed E p k kids n (c ∷ more) = RefinesIn fixed c.context.opened c.context.scope E p k (prog.Spec c.spec) (kids n) × KidsMeet fixed E p k kids (suc n) more
 
 -- For any table and place, any number of own calls, and any programs of the kids: where all obligations are valid and the kids'
--- programs refine their specifications, the filled skeleton refines the parent.
+-- programs refine their specifications in their contexts, the filled skeleton refines the parent in its own.
 abbrev pub LawsAreSound : Type 0
 LawsAreSound =
     (context : Context) (heads : List Head) (w : Spec) (s : BasicStep) (a : Applied) → IsReady context.scope heads w → law_of context heads w s ≡ fits a →
     (fixed : Map) (E : Table) (p k : ℕ) (kids : ℕ → Prog) → Each (Valid E.library) a.obligations → KidsMeet fixed E p k kids 1 a.children →
-    RefinesGiven fixed context.scope E p k (prog.Spec w) E p k (fill kids a.skeleton)
+    RefinesIn fixed context.opened context.scope E p k (prog.Spec w) (fill kids a.skeleton)
 
 -- where the law of a step fits a well-formed specification, the kids' specifications are well-formed where they stand
 abbrev pub KidsAreReady : Type 0

@@ -4,8 +4,8 @@
 ghost use Rattle.rw_soundness.specs.Sound.{LawsAreSound, KidsAreReady};
 
 /// Where the law of a step fits a well-formed specification, the obligations are valid, and the kids' programs refine the kids'
-/// specifications, the filled skeleton refines the parent: under any table, at any place, with any number of own calls, and for any
-/// programs of the kids.
+/// specifications, the filled skeleton refines the parent: under any table, at any place, with any number of own calls, for any
+/// programs of the kids, and whatever modules are opened.
 pub fn soundness()
     ensures { LawsAreSound }
 {}

@@ -1,5 +1,8 @@
-use Rattle.rw_meaning.proofs.Contexts.{outermost}
+use Rattle.rw_meaning.proofs.Contexts.{outermost, outermost_refines}
 use Rattle.rw_meaning.proofs.laws.contexts.Goals as goal
 
-pub returns : goal.returns
-returns c = outermost
+pub returns-clause-states : goal.returns-clause-states
+returns-clause-states c = outermost
+
+pub returns-clause-refinement : goal.returns-clause-refinement
+returns-clause-refinement c = outermost_refines

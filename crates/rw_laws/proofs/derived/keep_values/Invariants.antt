@@ -1,6 +1,0 @@
-use Rattle.std.proofs.Common.{◌≡◌, map, take}
-use Rattle.rw_laws.specs.Derived.{keeps_value}
-use Rattle.rw_laws.proofs.derived.keep_values.Given as goal
-
-abbrev pub invariant-loop-name : goal.invariant-loop-name
-invariant-loop-name l = l.formulas ≡ map keeps_value (take l.name-index l.names)
