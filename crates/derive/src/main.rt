@@ -1,24 +1,10 @@
 //! The workbench: `batch` answers a script from standard input on standard output.
 #![tactic(auto)]
 
-mod batch;
-#[cfg(test)]
-mod derivations;
-#[cfg(test)]
-mod loops;
-mod output;
-mod replies;
-mod run;
-mod stop;
-#[cfg(test)]
-mod tables;
-mod top;
-
 use rw_io::{NoDisk, NoDoors, Reading, Writing};
-use std::alloc::Global;
+use rw_top::top;
 use std::process::ExitCode;
 use std::{env, io};
-pub use top::top;
 
 // The words after the program's name.
 fn words(rt: &HostRuntime) -> io::Result<Vec<String>> {
@@ -47,6 +33,3 @@ fn status(rt: &HostRuntime) -> u8 {
 fn main(rt: HostRuntime) -> ExitCode {
     ExitCode::from(status(&rt))
 }
-
-#[cfg(test)]
-mod tests;
