@@ -4,11 +4,9 @@
 #[cfg(test)]
 mod arithmetic;
 #[cfg(test)]
-mod certificates;
+mod copies;
 #[cfg(test)]
-mod expressions;
-#[cfg(test)]
-mod faults;
+mod deepest;
 #[cfg(test)]
 mod laws;
 #[cfg(test)]
@@ -19,8 +17,6 @@ mod loops;
 mod printing;
 #[cfg(test)]
 mod programs;
-#[cfg(test)]
-mod requests;
 #[cfg(test)]
 mod substitution;
 #[cfg(test)]

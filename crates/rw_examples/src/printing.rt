@@ -47,69 +47,16 @@ fn formulas(rt: &impl Abort, alloc: Global, cases: &[(&[u8], &[u8])]) -> Result<
     Ok(())
 }
 
+// The others stand in scripts, where a goal shows them.
 #[test]
-fn terms_are_printed(rt: HostRuntime) -> Result<(), Fail> {
+fn terms_that_no_goal_shows_are_printed(rt: HostRuntime) -> Result<(), Fail> {
     terms(
         &rt,
         rt.alloc(),
         &[
-            (b"7", b"7"),
-            (b"x", b"x"),
-            (b"x0", b"x0"),
-            (b"X", b"X"),
-            (b"a-(b-c)", b"a - (b - c)"),
-            (b"(a-b)-c", b"a - b - c"),
-            (b"-(a+b)", b"-(a + b)"),
-            (b"- -x", b"--x"),
-            (b"- x", b"-x"),
-            (b"(-x)*y", b"-x * y"),
-            (b"a*(b+c)", b"a * (b + c)"),
-            (b"(a*b)+c", b"a * b + c"),
-            (b"a div (b mod c)", b"a div (b mod c)"),
-            (b"(a div b) mod c", b"a div b mod c"),
             (b"a [ i ] [ j+1 ]", b"a[i][j + 1]"),
             (b"(-a)[i]", b"(-a)[i]"),
-            (b"put(a,i,e+1)[i]", b"put(a, i, e + 1)[i]"),
             (b"f(x,(y+1))", b"f(x, y + 1)"),
-        ],
-    )
-}
-
-#[test]
-fn formulas_are_printed(rt: HostRuntime) -> Result<(), Fail> {
-    formulas(
-        &rt,
-        rt.alloc(),
-        &[
-            (
-                b"forall j:int . j >= 0 => x <> j - 1",
-                b"forall _1:int . 0 <= _1 => not x = _1 - 1",
-            ),
-            (
-                b"(forall i:int . i >= 0 => i <> i - 1) and true",
-                b"(forall _1:int . 0 <= _1 => not _1 = _1 - 1) and true",
-            ),
-            (
-                b"exists a:array 4.forall i:int.a[i]>i",
-                b"exists _1:array 4 . forall _2:int . _2 < _1[_2]",
-            ),
-            (b"(P(a)=>Q(b))=>R(c)", b"(P(a) => Q(b)) => R(c)"),
-            (b"P(a)=>(Q(b)=>R(c))", b"P(a) => Q(b) => R(c)"),
-            (
-                b"P(a) => forall i:int . Q(i)",
-                b"P(a) => (forall _1:int . Q(_1))",
-            ),
-            (b"not(P(a)and Q(b))", b"not (P(a) and Q(b))"),
-            (b"not (not true)", b"not not true"),
-            (b"(not true) and false", b"not true and false"),
-            (b"true and (true and false)", b"true and (true and false)"),
-            (b"(true and true) and false", b"true and true and false"),
-            (
-                b"(true or false) and true or false",
-                b"(true or false) and true or false",
-            ),
-            (b"P(t,u)", b"P(t, u)"),
-            (b"(x+1)=(y)", b"x + 1 = y"),
         ],
     )
 }

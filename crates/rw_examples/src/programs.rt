@@ -151,6 +151,37 @@ impl Stack {
         self.push_prog(Prog::If(arms))
     }
 
+    // A loop, whose variant stands before the guard.
+    fn iteration(&mut self) -> Result<(), Fail> {
+        let c = self.prog()?;
+        let g = self.formula()?;
+        let variant = self.term()?;
+        let arms = one_arm(self.alloc, g, c)?;
+        self.push_prog(Prog::Do(variant.into_inner(), arms))
+    }
+
+    // A call of `p` with one argument, whose result is the name's.
+    fn call(&mut self, x: &str) -> Result<(), Fail> {
+        let t = self.term()?;
+        let args = one_term(self.alloc, t)?;
+        let results = one_name(self.alloc, x)?;
+        self.push_prog(Prog::Call(name("p")?, args, results))
+    }
+
+    // A call of the operation `p` of `m`.
+    fn operation(&mut self, x: &str) -> Result<(), Fail> {
+        let t = self.term()?;
+        let args = one_term(self.alloc, t)?;
+        let results = one_name(self.alloc, x)?;
+        self.push_prog(Prog::OpCall(name("m")?, name("p")?, args, results))
+    }
+
+    // The block of `m`.
+    fn module(&mut self) -> Result<(), Fail> {
+        let c = self.prog()?;
+        self.push_prog(Prog::ModBlock(name("m")?, c))
+    }
+
     fn block(&mut self, x: &str) -> Result<(), Fail> {
         let c = self.prog()?;
         let x = name(x)?;
@@ -174,6 +205,10 @@ impl Stack {
             self.block(x)
         } else if let Some(x) = word.strip_prefix("con-") {
             self.constant(x)
+        } else if let Some(x) = word.strip_prefix("call-") {
+            self.call(x)
+        } else if let Some(x) = word.strip_prefix("op-") {
+            self.operation(x)
         } else {
             self.leaf(word)
         }
@@ -187,6 +222,8 @@ impl Stack {
             "skip" => self.push_prog(Prog::Skip),
             ";" => self.sequence(),
             "if" => self.alternation(),
+            "do" => self.iteration(),
+            "open" => self.module(),
             _ => self.named(word),
         }
     }
@@ -231,6 +268,12 @@ fn what_is_code(rt: HostRuntime) -> Result<(), Fail> {
         ("skip var-y", true),
         ("kid var-y", false),
         ("x skip con-D", false),
+        ("x x 0 < skip do", true),
+        ("x' x 0 < skip do", false),
+        ("x x 0 < kid do", false),
+        ("x call-x", true),
+        ("K op-x", false),
+        ("x op-x open", true),
     ];
     code_is(&rt, rt.alloc(), &cases)
 }
@@ -321,6 +364,28 @@ fn blocks_bring_names_and_take_them_away(rt: HostRuntime) -> Result<(), Fail> {
     scopes_are(&rt, alloc, &context, &cases)
 }
 
+#[test]
+fn loops_calls_and_modules_are_in_scope(rt: HostRuntime) -> Result<(), Fail> {
+    let cases = [
+        ("x x 0 < skip do", true),
+        ("a x 0 < skip do", false),
+        ("y x 0 < skip do", false),
+        ("x x 0 < y set-x do", false),
+        ("x call-x", true),
+        ("y call-x", false),
+        ("x call-y", false),
+        ("x call-K", false),
+        ("x op-x open", true),
+        ("y op-x open", false),
+        ("x op-x", false),
+        ("skip open x op-x ;", false),
+        ("skip open open", false),
+    ];
+    let alloc = rt.alloc();
+    let context = context(alloc)?;
+    scopes_are(&rt, alloc, &context, &cases)
+}
+
 // Whether a copy is code just as the program is.
 fn copy_case(alloc: Global, text: &str) -> Result<bool, Fail> {
     let prog = program(alloc, text)?;
@@ -342,6 +407,9 @@ fn copies_are_what_they_copy(rt: HostRuntime) -> Result<(), Fail> {
         ("x 0 < x set-x skip var-y ; if", true),
         ("x kid con-D", false),
         ("true spec-x", false),
+        ("x x 0 < x call-x do", true),
+        ("x op-x open", true),
+        ("kid open", false),
     ];
     copies_are(&rt, rt.alloc(), &cases)
 }

@@ -2,7 +2,7 @@
 
 use rw_items::{Boxed, Items};
 use rw_terms::division::{quotient, rest};
-use rw_terms::error::{NameError, ScopeError, TermError};
+use rw_terms::error::{ScopeError, TermError};
 use rw_terms::formed::well_formed;
 use rw_terms::measure::{depth, depth_of_term, weight, weight_of_term};
 use rw_terms::mention::{free_in, free_in_term};
@@ -410,38 +410,6 @@ fn a_quantified_formula_has_weight_11_and_depth_6(rt: HostRuntime) -> Result<(),
     assert!(rt; !free_in(&Name::read(b"j")?, &formula));
     assert!(rt; same(&formula, &formula.copy(alloc)?));
     Ok(())
-}
-
-fn names_are(rt: &impl Abort, cases: &[(&str, bool)]) {
-    for (text, want) in cases {
-        let is_name = match Name::read(text.as_bytes()) {
-            Ok(_) => true,
-            Err(NameError::NotAName) => false,
-            Err(NameError::Memory) => !*want,
-        };
-        assert_eq!(rt; is_name, *want, "at {text}");
-    }
-}
-
-#[test]
-fn names_are_words_that_are_not_reserved(rt: HostRuntime) {
-    let cases = [
-        ("x", true),
-        ("Abc_9", true),
-        ("abcdefghijklmnopqrstuvwxyzabcdef", true),
-        ("abcdefghijklmnopqrstuvwxyzabcdefg", false),
-        ("", false),
-        ("x0", false),
-        ("x00", false),
-        ("x01", true),
-        ("_1", false),
-        ("1x", false),
-        ("x-y", false),
-        ("mod", false),
-        ("Mod", true),
-        ("main", false),
-    ];
-    names_are(&rt, &cases)
 }
 
 fn tell_sort(told: &mut Text, sort: Sort) -> Result<(), Fail> {
