@@ -8,3 +8,4 @@ pub mod ExpansionLaws
 pub mod GivenLaws
 pub mod Dividing
 pub mod Refuting
+pub mod Counting

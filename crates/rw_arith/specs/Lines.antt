@@ -141,12 +141,20 @@ fault_of n (Ok made) = cond (refutes made) None (Some (fault.NotContradiction n)
 abbrev pub lines_fault : List Formula → List Formula → List LinLine → Option LinError
 lines_fault left right lines = fault_of (length lines) (all_made left right 0 lines [])
 
--- the steps counted, from what a check of so many lines answers: one for each line, up to the first that fails
-abbrev pub Counted : ℕ → ℕ → ℕ → LinError → Type 0
-Counted lines old new (fault.BadLine k) = new ≡ old + k
-Counted lines old new (fault.Wide k) = new ≡ old + k
-Counted lines old new (fault.NotContradiction k) = new ≡ old + lines
-Counted lines old new fault.Memory = new ≤ old + lines
+-- how many of so many lines are checked where this fault comes first, or none: the failing one is among them
+abbrev pub checked_of : ℕ → Option LinError → ℕ
+checked_of n None = n
+checked_of n (Some (fault.BadLine k)) = k
+checked_of n (Some (fault.Wide k)) = k
+checked_of n (Some (fault.NotContradiction k)) = n
+checked_of n (Some fault.Memory) = n
+
+-- the steps counted, from what a check of so many lines answers: one for each line, up to the first that fails; where there is no memory at most these
+abbrev pub Counted : ℕ → Option LinError → ℕ → ℕ → LinError → Type 0
+Counted lines first old new (fault.BadLine k) = new ≡ old + k
+Counted lines first old new (fault.Wide k) = new ≡ old + k
+Counted lines first old new (fault.NotContradiction k) = new ≡ old + lines
+Counted lines first old new fault.Memory = new ≤ old + checked_of lines first
 
 -- no two states make all left formulas true and all right ones false
 abbrev pub Refuted : List Formula → List Formula → Type 0

@@ -26,7 +26,7 @@ pub fn check_lines<L: Ledger>(
     requires { length lines.now < 4294967295 }
     ensures verdict { MatchResult result (λ _. lines_fault left.now right.now lines.now ≡ None) (λ e. (e ≡ LinError.Memory) ⊎ (lines_fault left.now right.now lines.now ≡ Some e)) }
     ensures refuted { OnOk result (Refuted left.now right.now) }
-    ensures cost { MatchResult result (λ _. steps.new ≡ steps.old + length lines.now) (λ e. Counted (length lines.now) steps.old steps.new e) }
+    ensures cost { MatchResult result (λ _. steps.new ≡ steps.old + length lines.now) (λ e. Counted (length lines.now) (lines_fault left.now right.now lines.now) steps.old steps.new e) }
 {
     let mut made = Items::new(alloc);
     let mut number = 0;

@@ -1,8 +1,8 @@
 -- Joining formulas one after another.
 use Rattle.std.proofs.Common.{◌≡◌, List, ◌∷◌, Option, Some, None, refl}
 use Rattle.rw_terms.specs.declared.term.Formula.{Formula}
-use Rattle.rw_subst.specs.Conj.{conj_with, conj}
-use Rattle.rw_citations.specs.Conj.{disj_with, disj, and_also, or_also}
+use Rattle.rw_subst.specs.Conj.{conj_with, conj, disj_with, disj}
+use Rattle.rw_citations.specs.Conj.{and_also, or_also}
 
 -- what is joined so far, if anything is, and more behind it
 abbrev pub conj_from : Option Formula → List Formula → Formula

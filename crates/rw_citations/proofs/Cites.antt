@@ -15,7 +15,7 @@ use Rattle.rw_terms.specs.Validity.{Each, FitsNames, Valid}
 use Rattle.rw_terms.proofs.Truths.{holds_stable, predicates_stable}
 use Rattle.rw_subst.specs.declared.slot.Form.TheVariants as form
 use Rattle.rw_subst.specs.Looks.{Looks, in_states, changed_looks}
-use Rattle.rw_subst.specs.Conj.{conj}
+use Rattle.rw_subst.specs.Conj.{conj, disj}
 use Rattle.rw_subst.proofs.Replacing.{replacement_keeps_truth}
 use Rattle.rw_goals.specs.declared.library.Definition.{Definition}
 use Rattle.rw_goals.specs.declared.library.Lemma.{Lemma}
@@ -30,7 +30,7 @@ use Rattle.rw_goals.proofs.Sound.{Holds, Denies, HoldsAt, AllValid, one_refuted}
 use Rattle.rw_goals.proofs.Places.{without_left, without_right, left_sound, right_sound}
 use Rattle.rw_quantifiers.specs.Quantified.{if_small, typed_left, typed_right}
 use Rattle.rw_quantifiers.proofs.Fresh.{each_kept}
-use Rattle.rw_citations.specs.Conj.{disj, statement}
+use Rattle.rw_citations.specs.Conj.{statement}
 use Rattle.rw_citations.specs.Cited.{definition_of, lemma_of, changes_for, for_terms, unfolded_left, unfolded_right, unfold_left, unfold_right, cited_left, unfold_at_left, unfold_at_right, cite}
 use Rattle.rw_citations.specs.WellMade.{IsMade, AreMade, WellMade, over_parameters, IsValid, NamedValid}
 use Rattle.rw_citations.proofs.Goals.{goal_valid}

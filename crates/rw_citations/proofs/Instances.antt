@@ -1,7 +1,8 @@
 -- What a formula over parameters says for given terms.
-use Rattle.std.proofs.Common.{◌≡◌, ℕ, Bool, true, false, ◌&&◌, cond, if◌then◌else◌, List, [], ◌∷◌, ◌++◌, map, find, Option, Some, refl, sym, ap, ◌∙◌, true≢false, bytes_eq}
+use Rattle.std.proofs.Common.{◌≡◌, ℕ, Bool, true, false, cond, if◌then◌else◌, List, [], ◌∷◌, ◌++◌, map, find, Option, Some, refl, sym, ap, ◌∙◌, true≢false, bytes_eq}
 use Rattle.std.specs.Prelude.{is_some}
 use Rattle.std.specs.Option.{option_map}
+use Rattle.std.proofs.lemmas.Bool.{and_parts, and_from}
 use Rattle.std.proofs.lemmas.Slice.Eq.{bytes_eq-Decides}
 use Rattle.rw_terms.specs.declared.term.Term.{Term}
 use Rattle.rw_terms.specs.Named.{Named, is_named}
@@ -19,7 +20,6 @@ use Rattle.rw_goals.specs.Sorting.{name_sort, sort_of}
 use Rattle.rw_goals.proofs.Sorted.{Known, has_sort}
 use Rattle.rw_quantifiers.proofs.Quantifiers.{sorted_closed, of_sort, known}
 use Rattle.rw_citations.specs.Cited.{changes_of, changes_for}
-use Rattle.rw_citations.proofs.Keeps.{and_true}
 
 same_bool : (a b : Bool) → (a ≡ true → b ≡ true) → (b ≡ true → a ≡ true) → a ≡ b
 same_bool true b f g = sym (f refl)
@@ -37,10 +37,6 @@ choose false v w o k = k refl
 known_later : (b : Bool) (n : Named) (o : Option Named) → is_some (option_map (λ (m : Named). m.1) (cond b (Some n) o)) ≡ true → b ≡ false → is_some (option_map (λ (m : Named). m.1) o) ≡ true
 known_later true n o k e = absurd (true≢false e)
 known_later false n o k e = k
-
-both_true : (a b : Bool) → a ≡ true → b ≡ true → (a && b) ≡ true
-both_true true b e f = f
-both_true false b e f = absurd (true≢false (sym e))
 
 fits_choice : (b : Bool) (n : Named) (v : Value) (o : Option Named) (w : Option Value) → HasSort v n.1 → FitsNamed o w → FitsNamed (cond b (Some n) o) (pick b (Some v) w)
 fits_choice true n v o w h k = h
@@ -62,9 +58,9 @@ module _ (names : List Named) (s0 s : State) where
   changes_are_closed [] ts e = refl
   changes_are_closed (p ∷ ps) [] e = refl
   changes_are_closed (p ∷ ps) (t ∷ ts) e =
-      let both = and_true (is_of p.1 (sort_of names [] t)) _ e in
+      let both = and_parts (is_of p.1 (sort_of names [] t)) _ e in
       let c = sorted_closed names t (known _ p.1 (of_sort _ p.1 both.0)) in
-      both_true (is_closed t) _ c (both_true (is_closed t) _ c (both_true (is_closed t) _ c (changes_are_closed ps ts both.1)))
+      and_from (is_closed t) _ c (and_from (is_closed t) _ c (and_from (is_closed t) _ c (changes_are_closed ps ts both.1)))
 
   -- a name in any form is changed by the first change of its name
   first_change : (g : Form) (x n : List ℕ) (t : Term) (cs : List Change) →
@@ -79,7 +75,7 @@ module _ (names : List Named) (s0 s : State) where
   changed_value [] ts e g x k = absurd (true≢false (sym k))
   changed_value (p ∷ ps) [] e g x k = absurd (true≢false (sym e))
   changed_value (p ∷ ps) (t ∷ ts) e g x k =
-      let both = and_true (is_of p.1 (sort_of names [] t)) _ e in
+      let both = and_parts (is_of p.1 (sort_of names [] t)) _ e in
       first_change g x p.0 t (changes_for ps ts)
       ∙ ap (λ b. if b then val t else changed_looks (changes_for ps ts) (in_states s0 s) g x) (either_way x p.0)
       ∙ choose (bytes_eq p.0 x) (val t) _ (arguments ps ts x) (λ n. changed_value ps ts both.1 g x (known_later (bytes_eq p.0 x) p (find (is_named x) ps) k n))
@@ -90,5 +86,5 @@ module _ (names : List Named) (s0 s : State) where
     arguments_fit [] ts e x = tt
     arguments_fit (p ∷ ps) [] e x = absurd (true≢false (sym e))
     arguments_fit (p ∷ ps) (t ∷ ts) e x =
-        let both = and_true (is_of p.1 (sort_of names [] t)) _ e in
+        let both = and_parts (is_of p.1 (sort_of names [] t)) _ e in
         fits_choice (bytes_eq p.0 x) p (val t) (find (is_named x) ps) (arguments ps ts x) (has_sort names s0 s fits0 fits t p.1 (of_sort _ p.1 both.0)) (arguments_fit ps ts both.1 x)

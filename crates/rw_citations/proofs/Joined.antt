@@ -8,8 +8,7 @@ use Rattle.rw_terms.specs.State.{Value}
 use Rattle.rw_terms.specs.Truth.{Predicates, holds_by}
 use Rattle.rw_terms.specs.Validity.{Each}
 use Rattle.rw_terms.proofs.Truths.{to_layer, from_layer, layer_truth}
-use Rattle.rw_subst.specs.Conj.{conj_with, conj}
-use Rattle.rw_citations.specs.Conj.{disj_with, disj}
+use Rattle.rw_subst.specs.Conj.{conj_with, conj, disj_with, disj}
 use Rattle.std.proofs.Common.{◌≡◌, subst, sym}
 
 module _ (says : Predicates) (var init const : List ℕ → Value) where

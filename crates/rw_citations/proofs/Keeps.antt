@@ -1,6 +1,7 @@
 -- What keeps the rules of sorts over names, by the definitions among entries, depends on these names and these predicates alone.
-use Rattle.std.proofs.Common.{◌≡◌, ◌↔◌, ℕ, Bool, true, false, ◌&&◌, List, [], ◌∷◌, map, Option, Some, None, refl, sym, ap, ◌∙◌, subst, true≢false, ◌<ℤ◌, ◌≤ℤ◌}
+use Rattle.std.proofs.Common.{◌≡◌, ◌↔◌, ℕ, Bool, true, false, List, [], ◌∷◌, map, Option, Some, None, refl, sym, ap, ◌∙◌, subst, true≢false, ◌<ℤ◌, ◌≤ℤ◌}
 use Rattle.std.specs.Prelude.{is_some}
+use Rattle.std.proofs.lemmas.Bool.{and_parts}
 use Rattle.rw_terms.specs.declared.term.Sort.{Sort}
 use Rattle.rw_terms.specs.declared.term.Term.{Term}
 use Rattle.rw_terms.specs.declared.term.Term.TheOpen.{Term-F}
@@ -24,10 +25,6 @@ use Rattle.rw_goals.specs.Library.{parameters_of}
 use Rattle.rw_goals.specs.Sorting.{takes, name_sort, sort_step, sort_of, keeps_step, keeps_rules}
 use Rattle.rw_goals.proofs.Sorted.{Known, int_known, ints_known, read_known, put_known}
 
-pub and_true : (a b : Bool) → (a && b) ≡ true → (a ≡ true) × (b ≡ true)
-and_true true b e = (refl, e)
-and_true false b e = absurd (true≢false (sym e))
-
 pub of_known : (s : Sort) (o : Option Sort) → is_of s o ≡ true → Known o
 of_known s None e = absurd (true≢false (sym e))
 of_known s (Some t) e = refl
@@ -36,7 +33,7 @@ pub all_known : (ss : List Sort) (os : List (Option Sort)) → are_of ss os ≡ 
 all_known [] [] e = tt
 all_known [] (o ∷ os) e = absurd (true≢false (sym e))
 all_known (s ∷ ss) [] e = absurd (true≢false (sym e))
-all_known (s ∷ ss) (o ∷ os) e = let p = and_true (is_of s o) _ e in (of_known s o p.0, all_known ss os p.1)
+all_known (s ∷ ss) (o ∷ os) e = let p = and_parts (is_of s o) _ e in (of_known s o p.0, all_known ss os p.1)
 
 equal_known : (o p : Option Sort) → may_equal_of o p ≡ true → Known o × Known p
 equal_known None p e = absurd (true≢false (sym e))
@@ -146,11 +143,11 @@ module _ (names : List Named) (entries : List Item) (says says' : Predicates) (v
       kept_layer (Formula-F.Less t u) sorts k b = let p = ints_same sorts b t u k in along_both (λ v w. whole v <ℤ whole w) p.0 p.1
       kept_layer (Formula-F.AtMost t u) sorts k b = let p = ints_same sorts b t u k in along_both (λ v w. whole v ≤ℤ whole w) p.0 p.1
       kept_layer (Formula-F.Not f) sorts k b = not_iff (f.1 sorts k b)
-      kept_layer (Formula-F.And f g) sorts k b = let p = and_true (keeps f.0 sorts) _ k in and_iff (f.1 sorts p.0 b) (g.1 sorts p.1 b)
-      kept_layer (Formula-F.Or f g) sorts k b = let p = and_true (keeps f.0 sorts) _ k in not_iff (and_iff (not_iff (f.1 sorts p.0 b)) (not_iff (g.1 sorts p.1 b)))
-      kept_layer (Formula-F.Imp f g) sorts k b = let p = and_true (keeps f.0 sorts) _ k in imp_iff (f.1 sorts p.0 b) (g.1 sorts p.1 b)
-      kept_layer (Formula-F.All s f) sorts k b = let p = and_true (is_sort s) _ k in all_iff _ _ s (λ w. f.1 (s ∷ sorts) p.1 (w ∷ b))
-      kept_layer (Formula-F.Any s f) sorts k b = let p = and_true (is_sort s) _ k in not_iff (all_iff _ _ s (λ w. not_iff (f.1 (s ∷ sorts) p.1 (w ∷ b))))
+      kept_layer (Formula-F.And f g) sorts k b = let p = and_parts (keeps f.0 sorts) _ k in and_iff (f.1 sorts p.0 b) (g.1 sorts p.1 b)
+      kept_layer (Formula-F.Or f g) sorts k b = let p = and_parts (keeps f.0 sorts) _ k in not_iff (and_iff (not_iff (f.1 sorts p.0 b)) (not_iff (g.1 sorts p.1 b)))
+      kept_layer (Formula-F.Imp f g) sorts k b = let p = and_parts (keeps f.0 sorts) _ k in imp_iff (f.1 sorts p.0 b) (g.1 sorts p.1 b)
+      kept_layer (Formula-F.All s f) sorts k b = let p = and_parts (is_sort s) _ k in all_iff _ _ s (λ w. f.1 (s ∷ sorts) p.1 (w ∷ b))
+      kept_layer (Formula-F.Any s f) sorts k b = let p = and_parts (is_sort s) _ k in not_iff (all_iff _ _ s (λ w. not_iff (f.1 (s ∷ sorts) p.1 (w ∷ b))))
       kept_layer (Formula-F.App p args) sorts k b =
           let t = taken (parameters_of entries p) _ k in
           let e = same_values sorts b args t.1 in

@@ -9,14 +9,14 @@ use Rattle.rw_terms.specs.declared.sequent.Sequent.{Sequent}
 use Rattle.rw_terms.specs.Named.{Named}
 use Rattle.rw_terms.specs.Rules.{are_of}
 use Rattle.rw_terms.specs.Size.{depth_step, formula_depth}
-use Rattle.rw_subst.specs.Conj.{conj_with, conj}
+use Rattle.rw_subst.specs.Conj.{conj_with, conj, disj_with, disj}
 use Rattle.rw_subst.specs.Leaves.{rebuilt_formula_step}
 use Rattle.rw_subst.specs.Replaced.{changed_leaves, replaced_formula}
 use Rattle.rw_subst.specs.declared.slot.Change.{Change}
 use Rattle.rw_goals.specs.Sorting.{sort_of}
 use Rattle.rw_quantifiers.specs.Quantified.{typed_left}
 use Rattle.rw_quantifiers.proofs.Small.{instance_large}
-use Rattle.rw_citations.specs.Conj.{disj_with, disj, statement, IsLong}
+use Rattle.rw_citations.specs.Conj.{statement, IsLong}
 use Rattle.rw_citations.specs.Cited.{changes_for, for_terms, said_left}
 
 -- how deep a formula is after a replacement

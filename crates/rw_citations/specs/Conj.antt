@@ -1,19 +1,9 @@
--- Formulas joined by `or`, and what a sequent says as a formula.
-use Rattle.std.specs.Prelude.{◌<◌, ◌⊎◌, List, [], ◌∷◌, length, Option, Some, None}
+-- What a sequent says as a formula.
+use Rattle.std.specs.Prelude.{◌<◌, ◌⊎◌, length, Option, Some, None}
 use Rattle.rw_terms.specs.declared.term.Formula.{Formula}
-use Rattle.rw_terms.specs.declared.term.Formula.TheVariants.{False, And, Or, Imp}
+use Rattle.rw_terms.specs.declared.term.Formula.TheVariants.{And, Or, Imp}
 use Rattle.rw_terms.specs.declared.sequent.Sequent.{Sequent}
-use Rattle.rw_subst.specs.Conj.{conj}
-
--- a formula and the others behind it, joined from the left
-abbrev pub disj_with : Formula → List Formula → Formula
-disj_with f [] = f
-disj_with f (g ∷ gs) = disj_with (Or f g) gs
-
--- the formulas joined from the left; of none it is `false`
-abbrev pub disj : List Formula → Formula
-disj [] = False
-disj (f ∷ fs) = disj_with f fs
+use Rattle.rw_subst.specs.Conj.{conj, disj}
 
 -- where each left formula holds, some right formula holds
 abbrev pub statement : Sequent → Formula

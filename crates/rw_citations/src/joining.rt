@@ -1,10 +1,11 @@
 //! What a sequent says, as a formula.
 
 ghost use Rattle.std.specs.Prelude.{◌≡◌, IfOk};
-ghost use Rattle.rw_subst.specs.Conj.{conj};
-ghost use Rattle.rw_citations.specs.Conj.{disj, statement, and_also, or_also};
+ghost use Rattle.rw_subst.specs.Conj.{conj, disj};
+ghost use Rattle.rw_citations.specs.Conj.{statement, and_also, or_also};
 
 use rw_items::Boxed;
+use rw_terms::copying::boxed;
 use rw_terms::sequent::Sequent;
 use rw_terms::term::Formula;
 use std::alloc::{AllocError, Global};
@@ -72,10 +73,4 @@ fn or_also(
         Some(front) => Boxed::new(alloc, Formula::Or(front, next)),
         None => Ok(next),
     }
-}
-
-fn boxed(alloc: Global, formula: &Formula) -> Result<Boxed<Formula>, AllocError>
-    ensures { IfOk result (λ f. f ≡ formula.now) }
-{
-    Boxed::new(alloc, formula.copy(alloc)?)
 }

@@ -1,5 +1,5 @@
 -- What the goals after the lines of a certificate say of it.
-use Rattle.std.proofs.Common.{◌≡◌, ℕ, zero, suc, arith, ◌+◌, Bool, true, false, List, [], ◌∷◌, length, reverse, take, refl, sym, ◌∙◌, ap, subst, drop, get_or, ◌<◌, ◌≤◌, add-one, drop-cons, ◌++◌}
+use Rattle.std.proofs.Common.{◌≡◌, ◌↔◌, ℕ, zero, suc, arith, ◌+◌, Bool, true, false, Result, Ok, Err, OnErr, List, [], ◌∷◌, length, reverse, take, refl, sym, ◌∙◌, ap, subst, drop, get_or, ◌<◌, ◌≤◌, add-one, drop-cons, ◌++◌}
 use Rattle.std.proofs.lemmas.List.{reverse-append, drop_all}
 use Rattle.std.proofs.Math.Seq.{take-length}
 use Rattle.rw_terms.specs.declared.sequent.Sequent.{Sequent}
@@ -76,6 +76,11 @@ module _ (library : Library) (before : ℕ) where
   pub verdict_good : (q : Sequent) (cert : Cert) → after_lines library before (Open (q ∷ [])) cert.lines 1 ≡ Open [] → Good ≡ verdict library before q cert
   verdict_good q cert e = sym (ap (λ p. told p (length cert.lines)) (whole q cert ∙ e))
 
+  -- a verdict is good exactly where the certificate follows
+  pub good_exactly : (q : Sequent) (cert : Cert) (v : Verdict) → v ≡ verdict library before q cert → (v ≡ Good) ↔ Follows library before q cert
+  good_exactly q cert v is =
+      (λ e. good_follows (after library before q cert (length cert.lines)) (length cert.lines) (sym is ∙ e), λ f. is ∙ ap (λ p. told p (length cert.lines)) f)
+
   next : (gs : List Sequent) (lines : List CertLine) (i n : ℕ) (d : CertLine) (p : Progress) → after_lines library before (Open gs) (drop i lines) n ≡ p → i < length lines →
       after_lines library before (step library before (Open gs) (get_or lines i d) n) (drop (i + 1) lines) (n + 1) ≡ p
   next gs lines i n d p e h = rw add-one ((ap (λ ls. after_lines library before (Open gs) ls n) (sym (drop-cons lines i d h))) ∙ e)
@@ -107,6 +112,11 @@ module _ (library : Library) (before : ℕ) where
       let z : spent library before (step library before (Open gs) (get_or lines i d) n) (drop (i + 1) lines) (n + 1) ≡ 0 = ap (λ p. spent library before p (drop (i + 1) lines) (n + 1)) s in
       omega arith
 
+  -- the next line and its arithmetic lines are among them
+  pub spent_at_least : (gs : List Sequent) (lines : List CertLine) (i n : ℕ) (d : CertLine) → i < length lines →
+      1 + arithmetic gs (get_or lines i d) ≤ spent library before (Open gs) (drop i lines) n
+  spent_at_least gs lines i n d h = let e = spent_next gs lines i n d h in omega arith
+
   pub spent_on : (gs more : List Sequent) (lines : List CertLine) (i n : ℕ) (d : CertLine) → i < length lines →
       step library before (Open gs) (get_or lines i d) n ≡ Open more →
       spent library before (Open gs) (drop i lines) n ≡ 1 + arithmetic gs (get_or lines i d) + spent library before (Open more) (drop (i + 1) lines) (n + 1)
@@ -126,3 +136,7 @@ last_first gs q = reverse-append gs (q ∷ [])
 
 pub two_on_top : (gs rest : List Sequent) (p q : Sequent) → gs ≡ (rest ++ q ∷ []) ++ p ∷ [] → reverse gs ≡ p ∷ q ∷ reverse rest
 two_on_top gs rest p q e = ap reverse e ∙ last_first (rest ++ q ∷ []) p ∙ ap (λ r. p ∷ r) (last_first rest q)
+
+pub on_err : {T E P : Type 0} (r : Result T E) → P → OnErr r P
+on_err (Ok x) p = tt
+on_err (Err e) p = p

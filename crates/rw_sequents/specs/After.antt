@@ -6,8 +6,7 @@ use Rattle.rw_goals.specs.declared.library.Library.{Library}
 use Rattle.rw_goals.specs.Premises.{Effect, Fails, Premises}
 use Rattle.rw_sequents.specs.declared.check.Fault.{Fault}
 use Rattle.rw_terms.specs.Validity.{Each}
-use Rattle.rw_arith.specs.Lines.{lines_fault}
-use Rattle.rw_sequents.specs.Refuted.{checked_of}
+use Rattle.rw_arith.specs.Lines.{lines_fault, checked_of}
 use Rattle.rw_sequents.specs.Counting.{arithmetic_lines}
 use Rattle.rw_sequents.specs.declared.line.CertLine.{CertLine}
 use Rattle.rw_sequents.specs.declared.line.CertLine.TheVariants as line

@@ -1,5 +1,5 @@
 -- Arithmetic lines as a line of a certificate.
-use Rattle.std.specs.Prelude.{ℕ, List, [], Option, Some, None}
+use Rattle.std.specs.Prelude.{List, [], Option, Some, None}
 use Rattle.rw_terms.specs.declared.sequent.Sequent.{Sequent}
 use Rattle.rw_arith.specs.declared.line.LinLine.{LinLine}
 use Rattle.rw_arith.specs.declared.error.LinError.{LinError}
@@ -19,11 +19,3 @@ by_fault (Some fault.Memory) = Fails 0 0
 -- the lines refute that the left formulas of the goal are true and the right ones false
 abbrev pub refuted_by : List LinLine → Sequent → Effect
 refuted_by lines q = by_fault (lines_fault q.left q.right lines)
-
--- how many of so many lines are checked, the failing one among them
-abbrev pub checked_of : ℕ → Option LinError → ℕ
-checked_of n None = n
-checked_of n (Some (fault.BadLine k)) = k
-checked_of n (Some (fault.Wide k)) = k
-checked_of n (Some (fault.NotContradiction k)) = n
-checked_of n (Some fault.Memory) = n

@@ -1,9 +1,9 @@
 //! What a line does to the goal on top.
 
-ghost use Rattle.std.specs.Prelude.{◌≡◌, ◌+◌, ◌<◌, [], ◌∷◌, length, IfOk};
-ghost use Rattle.rw_arith.specs.Lines.{lines_fault};
+ghost use Rattle.std.specs.Prelude.{◌≡◌, ◌+◌, ◌<◌, ◌≤◌, [], ◌∷◌, length, IfOk};
+ghost use Rattle.rw_arith.specs.Lines.{lines_fault, checked_of};
 ghost use Rattle.rw_goals.specs.Premises.{Gives};
-ghost use Rattle.rw_sequents.specs.Refuted.{refuted_by, checked_of};
+ghost use Rattle.rw_sequents.specs.Refuted.{refuted_by};
 ghost use Rattle.rw_sequents.specs.Rules.{after_line};
 ghost use Rattle.rw_sequents.specs.After.{arithmetic, IsShort};
 
@@ -38,6 +38,7 @@ pub fn apply_line<L: Ledger>(
 ) -> Result<Outcome, AllocError>
     requires { IsShort line.now }
     ensures cost { IfOk result (λ _. steps.new ≡ steps.old + arithmetic (goal.old ∷ []) line.now) }
+    ensures most { steps.new ≤ steps.old + arithmetic (goal.old ∷ []) line.now }
     ensures effect { IfOk result (λ o. Gives o goal.new (after_line library.now before goal.old line.now)) }
 {
     match line {
@@ -85,6 +86,7 @@ fn refute<L: Ledger>(
     requires { length lines.now < 4294967295 }
     ensures effect { IfOk result (λ o. Gives o goal.now (refuted_by lines.now goal.now)) }
     ensures cost { IfOk result (λ _. steps.new ≡ steps.old + checked_of (length lines.now) (lines_fault goal.now.left goal.now.right lines.now)) }
+    ensures most { steps.new ≤ steps.old + checked_of (length lines.now) (lines_fault goal.now.left goal.now.right lines.now) }
 {
     match check_lines(
         alloc,

@@ -1,11 +1,11 @@
 //! Checking a certificate.
 
-ghost use Rattle.std.specs.Prelude.{◌≡◌, ℕ, ◌+◌, ◌<◌, length, reverse, ltb, IfOk};
+ghost use Rattle.std.specs.Prelude.{◌≡◌, ℕ, ◌+◌, ◌<◌, ◌≤◌, ◌↔◌, length, reverse, ltb, IfOk, OnErr};
 ghost use Rattle.rw_terms.specs.Validity.{Valid};
 ghost use Rattle.rw_goals.specs.Library.{definitions_of};
 ghost use Rattle.rw_citations.specs.WellMade.{WellMade};
 ghost use Rattle.rw_sequents.specs.Cited.{CitedValid};
-ghost use Rattle.rw_sequents.specs.After.{Open, step, progress, capped, verdict, checked, arithmetic, IsShort, IsCounted};
+ghost use Rattle.rw_sequents.specs.After.{Open, step, progress, capped, Follows, verdict, checked, arithmetic, IsShort, IsCounted};
 
 use crate::after::apply_line;
 use crate::error::CheckError;
@@ -29,7 +29,7 @@ pub struct Fault {
 }
 
 /// Whether the certificate closes the goal, and else the first line that fails with its cause. One step is counted for each line
-/// and each arithmetic line that is checked, the failing ones among them. Lemmas of the library may be cited below the table place `before`, counted from 0.
+/// and each arithmetic line that is checked, the failing ones among them; for want of memory no more than a whole check would count. Lemmas of the library may be cited below the table place `before`, counted from 0.
 /// In a library that is well made a good certificate shows the goal valid where the lemmas that it cites are.
 pub fn check<L: Ledger>(
     alloc: Global,
@@ -41,8 +41,10 @@ pub fn check<L: Ledger>(
 ) -> Result<Verdict, CheckError>
     requires { IsCounted cert.now }
     ensures verdict { IfOk result (λ v. v ≡ verdict library.now before goal.now cert.now) }
+    ensures good { IfOk result (λ v. (v ≡ Verdict.Good) ↔ Follows library.now before goal.now cert.now) }
     ensures valid { IfOk result (λ v. WellMade library.now → CitedValid library.now before cert.now → v ≡ Verdict.Good → Valid (definitions_of library.now) goal.now) }
     ensures cost { IfOk result (λ _. steps.new ≡ steps.old + checked library.now before goal.now cert.now) }
+    ensures memory { OnErr result (steps.new ≤ steps.old + checked library.now before goal.now cert.now) }
 {
     let mut goals = Items::new(alloc);
     goals.push(goal.copy(alloc)?)?;
@@ -80,6 +82,7 @@ fn advance<L: Ledger>(
 ) -> Result<Option<Fault>, AllocError>
     requires { IsShort rule.now }
     ensures cost { IfOk result (λ _. steps.new ≡ steps.old + arithmetic (reverse goals.old) rule.now) }
+    ensures most { steps.new ≤ steps.old + arithmetic (reverse goals.old) rule.now }
     ensures goals { IfOk result (λ fault. (n : ℕ) → step library.now before (Open (reverse goals.old)) rule.now n ≡ progress fault (reverse goals.new) n) }
 {
     let mut top = match goals.pop() {

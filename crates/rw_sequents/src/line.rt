@@ -4,8 +4,8 @@ ghost use Rattle.std.specs.Prelude.{◌≡◌, nat_le, IfOk};
 ghost use Rattle.rw_sequents.specs.Counting.{arithmetic_lines, line_count};
 
 use rw_arith::line::LinLine;
-use rw_items::{Boxed, Items};
-use rw_terms::copying::copy_terms;
+use rw_items::Items;
+use rw_terms::copying::{boxed_term, copy_terms};
 use rw_terms::name::Name;
 use rw_terms::term::{Formula, Term};
 use std::alloc::{AllocError, Global};
@@ -119,19 +119,19 @@ impl CertLine {
 fn put_same(alloc: Global, a: &Term, i: &Term, e: &Term) -> Result<CertLine, AllocError>
     ensures { IfOk result (λ l. l ≡ CertLine.PutSame a.now i.now e.now) }
 {
-    let a = boxed(alloc, a)?;
-    let i = boxed(alloc, i)?;
-    let e = boxed(alloc, e)?;
+    let a = boxed_term(alloc, a)?;
+    let i = boxed_term(alloc, i)?;
+    let e = boxed_term(alloc, e)?;
     Ok(CertLine::PutSame(a.into_inner(), i.into_inner(), e.into_inner()))
 }
 
 fn put_other(alloc: Global, a: &Term, i: &Term, e: &Term, j: &Term) -> Result<CertLine, AllocError>
     ensures { IfOk result (λ l. l ≡ CertLine.PutOther a.now i.now e.now j.now) }
 {
-    let a = boxed(alloc, a)?;
-    let i = boxed(alloc, i)?;
-    let e = boxed(alloc, e)?;
-    let j = boxed(alloc, j)?;
+    let a = boxed_term(alloc, a)?;
+    let i = boxed_term(alloc, i)?;
+    let e = boxed_term(alloc, e)?;
+    let j = boxed_term(alloc, j)?;
     Ok(CertLine::PutOther(
         a.into_inner(),
         i.into_inner(),
@@ -143,23 +143,17 @@ fn put_other(alloc: Global, a: &Term, i: &Term, e: &Term, j: &Term) -> Result<Ce
 fn array_extension(alloc: Global, a: &Term, b: &Term) -> Result<CertLine, AllocError>
     ensures { IfOk result (λ l. l ≡ CertLine.ArrExt a.now b.now) }
 {
-    let a = boxed(alloc, a)?;
-    let b = boxed(alloc, b)?;
+    let a = boxed_term(alloc, a)?;
+    let b = boxed_term(alloc, b)?;
     Ok(CertLine::ArrExt(a.into_inner(), b.into_inner()))
 }
 
 fn division(alloc: Global, t: &Term, u: &Term) -> Result<CertLine, AllocError>
     ensures { IfOk result (λ l. l ≡ CertLine.DivMod t.now u.now) }
 {
-    let t = boxed(alloc, t)?;
-    let u = boxed(alloc, u)?;
+    let t = boxed_term(alloc, t)?;
+    let u = boxed_term(alloc, u)?;
     Ok(CertLine::DivMod(t.into_inner(), u.into_inner()))
-}
-
-fn boxed(alloc: Global, t: &Term) -> Result<Boxed<Term>, AllocError>
-    ensures { IfOk result (λ u. u ≡ t.now) }
-{
-    Boxed::new(alloc, t.copy(alloc)?)
 }
 
 fn copied(alloc: Global, lines: &[LinLine]) -> Result<Items<LinLine>, AllocError>

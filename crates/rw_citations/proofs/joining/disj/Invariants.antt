@@ -1,5 +1,5 @@
 use Rattle.std.proofs.Common.{◌≡◌, drop}
-use Rattle.rw_citations.specs.Conj.{disj}
+use Rattle.rw_subst.specs.Conj.{disj}
 use Rattle.rw_citations.proofs.Behind.{disj_from}
 use Rattle.rw_citations.proofs.joining.disj.Given as goal
 
