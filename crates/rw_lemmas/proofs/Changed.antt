@@ -3,6 +3,7 @@ use Rattle.std.proofs.Common.{◌≡◌, ℕ, suc, ◌+◌, ◌<◌, ◌≤◌, 
 use Rattle.std.specs.List.{list_any}
 use Rattle.std.specs.Option.{option_map}
 use Rattle.std.proofs.Math.Seq.{take-suc}
+use Rattle.std.proofs.lemmas.Bool.{or_parts, or_left, or_right}
 use Rattle.std.proofs.lemmas.List.Folds.{list_any-append}
 use Rattle.std.proofs.lemmas.Slice.Eq.{bytes_eq-Decides}
 use Rattle.rw_terms.specs.declared.term.Formula.{Formula}
@@ -21,26 +22,17 @@ use Rattle.rw_lemmas.specs.Citing.{predicates}
 use Rattle.rw_lemmas.specs.Affected.{InFormula, SameLemma, SameSorts, SameDefinition, ReadsSame}
 use Rattle.rw_lemmas.specs.Differing.{Same, Tells, Covers, Keeps, meets, next_user, ReachesOne, TellsChanges}
 use Rattle.rw_lemmas.proofs.Predicates.{seen_predicates}
-use Rattle.rw_lemmas.proofs.Removing.{or_parts}
 
 -- names that are listed
 pub names_itself : (x : List ℕ) → bytes_eq x x ≡ true
 names_itself x = (bytes_eq-Decides x x).1 refl
 
-pub kept_so : (b c : Bool) → b ≡ true → (b || c) ≡ true
-kept_so true c e = refl
-kept_so false c e = absurd (true≢false (sym e))
-
-pub or_true : (b : Bool) → (b || true) ≡ true
-or_true true = refl
-or_true false = refl
-
 pub keeps_more : (names more : List (List ℕ)) → Keeps names (names ++ more)
-keeps_more names more x e = list_any-append (bytes_eq x) names more ∙ kept_so _ _ e
+keeps_more names more x e = list_any-append (bytes_eq x) names more ∙ or_left _ _ e
 
 pub listed_last : (names : List (List ℕ)) (x : List ℕ) → is_listed (names ++ x ∷ []) x ≡ true
 listed_last names x =
-    list_any-append (bytes_eq x) names (x ∷ []) ∙ ap (λ b. is_listed names x || (b || false)) (names_itself x) ∙ or_true (is_listed names x)
+    list_any-append (bytes_eq x) names (x ∷ []) ∙ ap (λ b. is_listed names x || (b || false)) (names_itself x) ∙ or_right (is_listed names x) true refl
 
 pub told_last : (S : Type 0) (names : List (List ℕ)) (x : List ℕ) → is_listed (names ++ x ∷ []) x ≡ false → S
 told_last S names x e = absurd (true≢false (sym (listed_last names x) ∙ e))
@@ -66,7 +58,7 @@ listed_each P (n ∷ names) y e h = go (bytes_eq y n) refl (listed_each P names 
 pub each_listed : (P : List ℕ → Type 0) (names base : List (List ℕ)) → Keeps names base → ((x : List ℕ) → is_listed base x ≡ true → P x) → Each P names
 each_listed P [] base k h = tt
 each_listed P (n ∷ names) base k h =
-    (h n (k n (kept_so (bytes_eq n n) _ (names_itself n))), each_listed P names base (λ x e. k x (ap (λ b. bytes_eq x n || b) e ∙ or_true (bytes_eq x n))) h)
+    (h n (k n (or_left (bytes_eq n n) _ (names_itself n))), each_listed P names base (λ x e. k x (ap (λ b. bytes_eq x n || b) e ∙ or_right (bytes_eq x n) true refl)) h)
 
 pub each_map : (P Q : List ℕ → Type 0) (xs : List (List ℕ)) → ((x : List ℕ) → P x → Q x) → Each P xs → Each Q xs
 each_map P Q [] h k = tt
@@ -134,8 +126,8 @@ meets_found (n ∷ names) f e = go (applies n f) refl e (meets_found names f)
   where
     go : (b : Bool) → applies n f ≡ b → (b || meets names f) ≡ true → (meets names f ≡ true → (y : List ℕ) × (is_listed names y ≡ true) × (applies y f ≡ true)) →
         (y : List ℕ) × (is_listed (n ∷ names) y ≡ true) × (applies y f ≡ true)
-    go true is e ih = (n, kept_so (bytes_eq n n) _ (names_itself n), is)
-    go false is e ih = let r = ih e in (r.0, ap (λ b. bytes_eq r.0 n || b) r.1 ∙ or_true (bytes_eq r.0 n), r.2)
+    go true is e ih = (n, or_left (bytes_eq n n) _ (names_itself n), is)
+    go false is e ih = let r = ih e in (r.0, ap (λ b. bytes_eq r.0 n || b) r.1 ∙ or_right (bytes_eq r.0 n) true refl, r.2)
 
 any_is : (P : List ℕ → Type 0) (ps : List (List ℕ)) (y : List ℕ) → list_any (λ p. bytes_eq p y) ps ≡ true → Each P ps → P y
 any_is P [] y e h = absurd (true≢false (sym e))

@@ -1,6 +1,5 @@
 pub mod Names
 pub mod Places
-pub mod Sorts
 pub mod Predicates
 pub mod Within
 pub mod Lines

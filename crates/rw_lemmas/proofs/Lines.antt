@@ -11,7 +11,7 @@ use Rattle.rw_terms.specs.declared.sequent.Sequent.{Sequent}
 use Rattle.rw_terms.specs.Named.{Named}
 use Rattle.rw_terms.specs.Validity.{Each}
 use Rattle.rw_terms.specs.InScope.{only_if}
-use Rattle.rw_subst.specs.Conj.{conj_with, conj}
+use Rattle.rw_subst.specs.Conj.{conj_with, conj, disj_with, disj}
 use Rattle.rw_subst.specs.Replaced.{changed_leaves, opened_leaves, opened}
 use Rattle.rw_arith.specs.declared.error.LinError.{LinError}
 use Rattle.rw_arith.specs.declared.error.LinError.TheVariants as fault
@@ -36,7 +36,7 @@ use Rattle.rw_equations.specs.declared.equality.Rewritten.TheVariants as rewritt
 use Rattle.rw_equations.specs.Equality as equality
 use Rattle.rw_equations.specs.Equality.{two_orders, equal_right, flipped, sides, rewritten_by, rewriting, unless_itself, placed, left_with, right_with, rewrite_left, rewrite_right}
 use Rattle.rw_quantifiers.specs.Quantified.{if_small, typed_left, typed_right, all_left, any_right, fresh_left, fresh_right, all_right, any_left, is_known}
-use Rattle.rw_citations.specs.Conj.{disj_with, disj, statement}
+use Rattle.rw_citations.specs.Conj.{statement}
 use Rattle.rw_citations.specs.Cited.{definition_of, lemma_of, changes_for, for_terms, unfolded_left, unfolded_right, unfold_left, unfold_right, cited_left}
 use Rattle.rw_sequents.specs.Refuted.{by_fault}
 use Rattle.rw_sequents.specs.Rules.{after_line}

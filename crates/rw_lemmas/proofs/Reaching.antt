@@ -1,6 +1,7 @@
 -- Definitions that are in order do not reach themselves.
 use Rattle.std.proofs.Common.{◌≡◌, ℕ, zero, suc, Bool, true, ◌&&◌, List, [], ◌∷◌, ◌++◌, map, take, drop, Option, Some, None, refl, sym, ap, ◌∙◌, subst, true≢false}
 use Rattle.std.specs.Prelude.{is_some, slice_get}
+use Rattle.std.proofs.lemmas.Bool.{and_parts}
 use Rattle.std.proofs.lemmas.List.{take-append-drop, append_assoc, append-nil}
 use Rattle.rw_terms.specs.declared.term.Sort.{Sort}
 use Rattle.rw_terms.specs.declared.term.Formula.{Formula}
@@ -16,7 +17,6 @@ use Rattle.rw_goals.specs.Library.{parameters_in, parameters_of, or_else}
 use Rattle.rw_goals.specs.Sorting.{takes, sort_of, keeps_step, keeps_rules}
 use Rattle.rw_goals.proofs.Sound.{joined}
 use Rattle.rw_citations.specs.WellMade.{AreMade}
-use Rattle.rw_citations.proofs.Keeps.{and_true}
 use Rattle.rw_lemmas.specs.Citing.{predicates_step, predicates}
 use Rattle.rw_lemmas.specs.Affected.{IsClosed, Reaches}
 use Rattle.rw_lemmas.specs.Sound.{NoneReachesItself}
@@ -45,7 +45,7 @@ module _ (names : List Named) (es : List Item) where
   taken (Some params) sorts e = refl
 
   two_known : (f g : Formula) → Known f → Known g → (sorts : List Sort) → (keeps_rules names es f sorts && keeps_rules names es g sorts) ≡ true → Each Defined (predicates f ++ predicates g)
-  two_known f g h k sorts e = let r = and_true _ _ e in joined Defined (predicates f) (predicates g) (h sorts r.0) (k sorts r.1)
+  two_known f g h k sorts e = let r = and_parts _ _ e in joined Defined (predicates f) (predicates g) (h sorts r.0) (k sorts r.1)
 
   known_layer : (y : Layer) (sorts : List Sort) → keeps_step names es (map-Formula Formula (List Sort → Bool) (keeps_rules names es) (inside y)) sorts ≡ true →
       Each Defined (predicates_step (map-Formula Formula (List (List ℕ)) predicates (inside y)))
@@ -58,8 +58,8 @@ module _ (names : List Named) (es : List Item) where
   known_layer (Formula-F.And f g) sorts e = two_known f.0 g.0 f.1 g.1 sorts e
   known_layer (Formula-F.Or f g) sorts e = two_known f.0 g.0 f.1 g.1 sorts e
   known_layer (Formula-F.Imp f g) sorts e = two_known f.0 g.0 f.1 g.1 sorts e
-  known_layer (Formula-F.All s f) sorts e = f.1 (s ∷ sorts) (and_true (is_sort s) _ e).1
-  known_layer (Formula-F.Any s f) sorts e = f.1 (s ∷ sorts) (and_true (is_sort s) _ e).1
+  known_layer (Formula-F.All s f) sorts e = f.1 (s ∷ sorts) (and_parts (is_sort s) _ e).1
+  known_layer (Formula-F.Any s f) sorts e = f.1 (s ∷ sorts) (and_parts (is_sort s) _ e).1
   known_layer (Formula-F.App p args) sorts e = (taken (parameters_of es p) (map (sort_of names sorts) args) e, tt)
 
   known_at : (y : Layer) → Known (roll-Formula (inside y))

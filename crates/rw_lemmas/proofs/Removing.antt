@@ -1,10 +1,10 @@
 -- What is taken out of the table and that no other entry names leaves the others with their statuses.
-use Rattle.std.proofs.Common.{◌≡◌, ℕ, zero, suc, ◌+◌, ◌<◌, ◌≤◌, Bool, true, false, not, ◌&&◌, ◌||◌, if◌then◌else◌, List, [], ◌∷◌, take, remove, Option, Some, None, refl, sym, ap, ◌∙◌, subst, arith, true≢false, bytes_eq, nat_eq}
+use Rattle.std.proofs.Common.{◌≡◌, ℕ, zero, suc, ◌+◌, ◌<◌, ◌≤◌, Bool, true, false, not, ◌&&◌, if◌then◌else◌, List, [], ◌∷◌, take, remove, Option, Some, None, refl, sym, ap, ◌∙◌, subst, arith, true≢false, bytes_eq, nat_eq}
 use Rattle.std.specs.Prelude.{is_some, slice_get}
 use Rattle.std.specs.List.{list_any}
 use Rattle.std.specs.Option.{option_and_then, option_map}
 use Rattle.std.proofs.lemmas.Slice.Eq.{bytes_eq-Decides}
-use Rattle.std.proofs.lemmas.Bool.{eqb-true}
+use Rattle.std.proofs.lemmas.Bool.{eqb-true, or_parts}
 use Rattle.rw_terms.specs.declared.term.Formula.{Formula}
 use Rattle.rw_terms.specs.Validity.{Each}
 use Rattle.rw_goals.specs.declared.library.Definition.{Definition}
@@ -73,10 +73,6 @@ or_none (Some x) p e = absurd (cc)
 not_so : {X : Type 0} (b : Bool) (x : X) → b ≡ false → if_so b x ≡ None
 not_so false x e = refl
 not_so true x e = absurd (true≢false e)
-
-pub or_parts : (a b : Bool) → (a || b) ≡ false → (a ≡ false) × (b ≡ false)
-or_parts false b e = (refl, e)
-or_parts true b e = absurd (true≢false e)
 
 module _ (x : List ℕ) where
   -- another name

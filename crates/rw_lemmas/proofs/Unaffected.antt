@@ -1,7 +1,8 @@
 -- A certificate that reads nothing that differs keeps its verdict, and one that reads what differs is affected.
-use Rattle.std.proofs.Common.{◌≡◌, ℕ, zero, suc, ◌+◌, ◌<◌, Bool, true, false, if◌then◌else◌, ◌&&◌, ◌||◌, not, List, [], ◌∷◌, length, take, drop, get_or, add-one, drop-cons, Option, Some, None, refl, sym, ap, ◌∙◌, subst, arith, true≢false, bytes_eq}
+use Rattle.std.proofs.Common.{◌≡◌, ℕ, zero, suc, ◌+◌, ◌<◌, ◌≤◌, inl, inr, Bool, true, false, IfSome, if◌then◌else◌, ◌&&◌, ◌||◌, not, List, [], ◌∷◌, length, take, drop, get_or, add-one, drop-cons, Option, Some, None, refl, sym, ap, ◌∙◌, subst, arith, true≢false, bytes_eq}
 use Rattle.std.specs.Prelude.{is_some, slice_get}
 use Rattle.std.specs.List.{list_any}
+use Rattle.std.proofs.lemmas.Bool.{or_parts, or_left, or_right}
 use Rattle.std.proofs.lemmas.Slice.Eq.{bytes_eq-Decides}
 use Rattle.rw_terms.specs.declared.term.Formula.{Formula}
 use Rattle.rw_terms.specs.declared.sequent.Sequent.{Sequent}
@@ -17,21 +18,21 @@ use Rattle.rw_citations.specs.Goal.{goal_of}
 use Rattle.rw_sequents.specs.declared.line.CertLine.{CertLine}
 use Rattle.rw_sequents.specs.declared.line.CertLine.TheVariants as line
 use Rattle.rw_sequents.specs.declared.line.Cert.{Cert}
-use Rattle.rw_sequents.specs.After.{verdict}
+use Rattle.rw_sequents.specs.After.{verdict, checked}
 use Rattle.rw_library.specs.Entries.{place_of}
 use Rattle.rw_lemmas.specs.declared.differing.Changes.{Changes}
 use Rattle.rw_lemmas.specs.declared.status.LemmaStatus.{LemmaStatus}
 use Rattle.rw_lemmas.specs.States.{by_verdict, proof_at, status_at}
 use Rattle.rw_lemmas.specs.Table.{Table, anew}
 use Rattle.rw_lemmas.specs.Citing.{predicates, is_unfolding}
-use Rattle.rw_lemmas.specs.Affected.{InFormula, InSequent, InLemma, SameLemma, SameSorts, ReadsSame, LineStays, LineReadsSame, ReadsNoChange, IsAffected, Costs, CostsFrom}
+use Rattle.rw_lemmas.specs.Affected.{InFormula, InSequent, InLemma, SameLemma, SameSorts, ReadsSame, LineStays, LineReadsSame, ReadsNoChange, goal_there, IsAffected, Costs, CostsAtMost, CostsFrom, AtMostAffected}
 use Rattle.rw_lemmas.specs.Differing.{TellsChanges, meets, sequent_meets, lemma_meets, next_user, is_one_alone, line_changes, line_reads, reads, reads_change}
-use Rattle.rw_lemmas.proofs.Changed.{kept_so, or_true, each_map, listed_each, meets_one}
+use Rattle.rw_lemmas.proofs.Changed.{each_map, listed_each, meets_one}
 use Rattle.rw_lemmas.proofs.Within.{Within}
 use Rattle.rw_lemmas.proofs.Lines.{Closed, LemmaWithin, LineWithin}
 use Rattle.rw_lemmas.proofs.Rules.{rules_alike}
 use Rattle.rw_lemmas.proofs.Kept.{SameDefinitions, SameLine, verdict_stays}
-use Rattle.rw_lemmas.proofs.Removing.{or_parts, within}
+use Rattle.rw_lemmas.proofs.Removing.{within}
 use Rattle.rw_lemmas.proofs.Sound.{in_its_place, some_inside}
 
 -- a predicate that is not among the names
@@ -142,7 +143,7 @@ module _ (es es' : List Item) (c : Changes) (told : TellsChanges es es' c) (befo
     lines_same [] d e = tt
     lines_same (l ∷ ls) d e =
         let r = or_parts (line_changes c (take before es) (take before' es') l) _ e in
-        (line_same l (λ u. d (kept_so (is_unfolding l) _ u)) r.0, lines_same ls (λ u. d (ap (λ b. is_unfolding l || b) u ∙ or_true (is_unfolding l))) r.1)
+        (line_same l (λ u. d (or_left (is_unfolding l) _ u)) r.0, lines_same ls (λ u. d (ap (λ b. is_unfolding l || b) u ∙ or_right (is_unfolding l) true refl)) r.1)
 
   line_outside : (bodies : Closed (Outside c.definitions) es) (l : CertLine) → line_reads c.definitions (take before es) l ≡ false → LineWithin (Outside c.definitions) library before bodies l
   line_outside bodies (line.Cut f) e = outside c.definitions f e
@@ -229,25 +230,80 @@ module _ (es es' : List Item) (c : Changes) (told : TellsChanges es es' c) (befo
 pub told_there : (t : Table) (k : ℕ) (e : Item) → slice_get t.library.entries k ≡ Some e → slice_get (anew t) k ≡ Some (status_at t.library k e (proof_at t.proofs k))
 told_there t k e h = let z : 0 + k ≡ k = omega arith in in_its_place t.library t.proofs 0 t.library.entries k e h ∙ ap (λ n. Some (status_at t.library n e (proof_at t.proofs n))) z
 
-pub no_gap : (library : Library) (ps : List (Option Cert)) (ss : List LemmaStatus) (k : ℕ) (e : Item) → ss ≡ anew (record { library = library; proofs = ps }) → slice_get library.entries k ≡ Some e → slice_get ss k ≡ None → ⊥
-no_gap library ps ss k e s h n = absurd (none (sym (told_there (record { library = library; proofs = ps }) k e h) ∙ ap (λ l. slice_get l k) (sym s) ∙ n))
+pub no_gap : (library : Library) (ps : List (Option Cert)) (ss : List LemmaStatus) (k : ℕ) (q : Sequent) → ss ≡ anew (record { library = library; proofs = ps }) →
+    goal_there (slice_get library.entries k) ≡ Some q → slice_get ss k ≡ None → ⊥
+no_gap library ps ss k q s h n = go (slice_get library.entries k) refl h
   where
     none : {X : Type 0} {x : X} → Some x ≡ None → ⊥
     none e = cc
 
-pub kept_status : (t : Table) (library : Library) (c : Changes) → TellsChanges t.library.entries library.entries c → (before before' : ℕ) (l : Lemma) (cert : Cert) (s : LemmaStatus) → slice_get (anew t) before ≡ Some s →
-    slice_get t.library.entries before ≡ Some (item.Lemma l) → proof_at t.proofs before ≡ Some cert → reads_change c (take before t.library.entries) (take before' library.entries) l cert ≡ false →
+    go : (o : Option Item) → slice_get library.entries k ≡ o → goal_there o ≡ Some q → ⊥
+    go None is h = absurd (cc)
+    go (Some e) is h = none (sym (told_there (record { library = library; proofs = ps }) k e is) ∙ ap (λ l. slice_get l k) (sym s) ∙ n)
+
+kept_status : (t : Table) (library : Library) (c : Changes) → TellsChanges t.library.entries library.entries c → (before before' : ℕ) (l : Lemma) (cert : Cert) (s : LemmaStatus) → slice_get (anew t) before ≡ Some s →
+    goal_there (slice_get t.library.entries before) ≡ Some (goal_of l) → proof_at t.proofs before ≡ Some cert → reads_change c (take before t.library.entries) (take before' library.entries) l cert ≡ false →
     s ≡ status_at library before' (item.Lemma l) (Some cert)
-kept_status t library c told before before' l cert s h there held n =
-    some_inside (sym h ∙ told_there t before (item.Lemma l) there)
-    ∙ ap (status_at t.library before (item.Lemma l)) held
-    ∙ ap by_verdict (keeps_verdict t.library.entries library.entries c told before before' l cert n)
+kept_status t library c told before before' l cert s h there held n = go (slice_get t.library.entries before) refl there
+  where
+    go : (o : Option Item) → slice_get t.library.entries before ≡ o → goal_there o ≡ Some (goal_of l) → s ≡ status_at library before' (item.Lemma l) (Some cert)
+    go None is e = absurd (cc)
+    go (Some (item.Definition d)) is e = absurd (cc)
+    go (Some (item.Lemma m)) is e =
+        some_inside (sym h ∙ told_there t before (item.Lemma m) is)
+        ∙ ap (status_at t.library before (item.Lemma m)) held
+        ∙ ap (λ q. by_verdict (verdict t.library before q cert)) (some_inside e)
+        ∙ ap by_verdict (keeps_verdict t.library.entries library.entries c told before before' l cert n)
+
+-- a status that is kept is that of checking anew
+pub kept_if_some : (t : Table) (library : Library) (c : Changes) → TellsChanges t.library.entries library.entries c → (before before' : ℕ) (l : Lemma) (cert : Cert) (o : Option LemmaStatus) →
+    IfSome o (λ s. slice_get (anew t) before ≡ Some s) → IfSome o (λ _. goal_there (slice_get t.library.entries before) ≡ Some (goal_of l)) → IfSome o (λ _. proof_at t.proofs before ≡ Some cert) →
+    reads_change c (take before t.library.entries) (take before' library.entries) l cert ≡ false → IfSome o (λ s. s ≡ status_at library before' (item.Lemma l) (Some cert))
+kept_if_some t _ c told before before' l cert None h there held n = tt
+kept_if_some t library c told before before' l cert (Some s) h there held n = kept_status t library c told before before' l cert s h there held n
+
+-- a lemma that is not there with its goal and its certificate is affected
+pub none_there : (t : Table) (library : Library) (before before' : ℕ) (l : Lemma) (cert : Cert) → before ≡ place_of t.library.entries l.name →
+    (goal_there (slice_get t.library.entries before) ≡ Some (goal_of l) → proof_at t.proofs before ≡ Some cert → ⊥) → IsAffected t library before' l cert
+none_there t _ before before' l cert is none there held reads =
+    subst (λ k. goal_there (slice_get t.library.entries k) ≡ Some (goal_of l) → proof_at t.proofs k ≡ Some cert → ⊥) is none there held
 
 pub costs_step : (t : Table) (library : Library) (ps : List (Option Cert)) (es : List Item) (i : ℕ) (e : Item) (a b m : ℕ) → i < length es → e ≡ get_or es i e → Costs t library i e (proof_at ps i) a b →
     CostsFrom t library ps (i + 1) (drop (i + 1) es) b m → CostsFrom t library ps i (drop i es) a m
 costs_step t library ps es i e a b m h is one rest =
     let here : drop i es ≡ e ∷ drop (i + 1) es = drop-cons es i e h ∙ (λ j. sym is j ∷ drop (sym (add-one i) j) es) in
     subst (λ ds. CostsFrom t library ps i ds a m) (sym here) (b, one, rest)
+
+costs_none : (t : Table) (library : Library) (k : ℕ) (l : Lemma) (o : Option Cert) (a : ℕ) → Costs t library k (item.Lemma l) o a a
+costs_none t _ k l None a = refl
+costs_none t _ k l (Some cert) a = inl refl
+
+all_cost_none : (t : Table) (library : Library) (ps : List (Option Cert)) (k : ℕ) (es : List Item) (a : ℕ) → CostsFrom t library ps k es a a
+all_cost_none t _ ps k [] a = refl
+all_cost_none t library ps k (item.Definition d ∷ es) a = (a, refl, all_cost_none t library ps (k + 1) es a)
+all_cost_none t library ps k (item.Lemma l ∷ es) a = (a, costs_none t library k l (proof_at ps k) a, all_cost_none t library ps (k + 1) es a)
+
+-- no step at all is among what a change may cost
+pub none_more : (t t' : Table) (a : ℕ) → AtMostAffected t t' a a
+none_more t t' a = (a, all_cost_none t t'.library t'.proofs 0 t'.library.entries a, omega arith)
+
+pub none_for : (t : Table) (library : Library) (k : ℕ) (l : Lemma) (cert : Cert) (a : ℕ) → CostsAtMost t library k (item.Lemma l) (Some cert) a a
+none_for t library k l cert a = (a, inl refl, omega arith)
+
+pub some_for : (t : Table) (library : Library) (k : ℕ) (l : Lemma) (cert : Cert) (a b : ℕ) → IsAffected t library k l cert → b ≤ a + checked library k (goal_of l) cert → CostsAtMost t library k (item.Lemma l) (Some cert) a b
+some_for t library k l cert a b affected h = (a + checked library k (goal_of l) cert, inr (affected, refl), h)
+
+-- where there is no memory for the entry in a place, the later ones cost nothing
+pub stops_at : (t : Table) (library : Library) (ps : List (Option Cert)) (es all : List Item) (i : ℕ) (e : Item) (o : Option Cert) (a b c : ℕ) →
+    ((m : ℕ) → CostsFrom t library ps i (drop i es) b m → CostsFrom t library ps 0 all a m) → i < length es → e ≡ get_or es i e → o ≡ proof_at ps i → CostsAtMost t library i e o b c →
+    (m : ℕ) × CostsFrom t library ps 0 all a m × (c ≤ m)
+stops_at t library ps es all i e o a b c before h is held one =
+    let here : Costs t library i e (proof_at ps i) b one.0 = subst (λ p. Costs t library i e p b one.0) held one.1 in
+    (one.0, before one.0 (costs_step t library ps es i e b one.0 one.0 h is here (all_cost_none t library ps (i + 1) (drop (i + 1) es) one.0)), one.2)
+
+-- a table by its entries and its certificates
+pub table_is : {es es' : List Item} {ps ps' : List (Option Cert)} → es ≡ es' → ps ≡ ps' → (let t : Table = record { library = record { entries = es }; proofs = ps } in t) ≡ record { library = record { entries = es' }; proofs = ps' }
+table_is e p = λ i. record { library = record { entries = e i }; proofs = p i }
 
 -- by what the call was handed
 pub read_here : (c : Changes) (xs ys es es' : List Item) (before before' : ℕ) (l : Lemma) (cert : Cert) (r v : Bool) → xs ≡ es → ys ≡ es' → r ≡ reads_change c (take before xs) (take before' ys) l cert → r ≡ v →

@@ -1,5 +1,5 @@
 -- Which certificates a change of the table affects: those that read what differs, or are new.
-use Rattle.std.specs.Prelude.{◌≡◌, ℕ, ◌+◌, Bool, List, [], ◌∷◌, take, Option, Some, None, is_some, slice_get, IsTrue, ◌⊎◌}
+use Rattle.std.specs.Prelude.{◌≡◌, ℕ, ◌+◌, ◌≤◌, Bool, List, [], ◌∷◌, take, Option, Some, None, is_some, slice_get, IsTrue, ◌⊎◌}
 use Rattle.std.specs.List.{list_any}
 use Rattle.std.specs.Option.{option_map}
 use Rattle.rw_terms.specs.declared.term.Formula.{Formula}
@@ -82,12 +82,18 @@ module _ (es es' : List Item) where
       pub lines : Each LineStays cert.lines
       pub definitions : IsTrue (list_any is_unfolding cert.lines) → InSequent ReadsSame l.sequent × Each LineReadsSame cert.lines
 
+-- the goal of an entry that is a lemma
+abbrev pub goal_there : Option Item → Option Sequent
+goal_there None = None
+goal_there (Some (item.Definition d)) = None
+goal_there (Some (item.Lemma l)) = Some (goal_of l)
+
 -- from a table to one with another library
 module _ (t : Table) (library : Library) where
-  -- the lemma in a place is new, or its statement, its certificate or something differs that this reads
+  -- the lemma in a place is new, or its goal, its certificate or something differs that this reads
   abbrev pub IsAffected : ℕ → Lemma → Cert → Type 0
   IsAffected k l cert =
-      slice_get t.library.entries (place_of t.library.entries l.name) ≡ Some (item.Lemma l) →
+      goal_there (slice_get t.library.entries (place_of t.library.entries l.name)) ≡ Some (goal_of l) →
       proof_at t.proofs (place_of t.library.entries l.name) ≡ Some cert →
       ReadsNoChange t.library.entries library.entries (place_of t.library.entries l.name) k l cert → ⊥
 
@@ -97,7 +103,11 @@ module _ (t : Table) (library : Library) where
   Costs k (item.Lemma l) None a b = b ≡ a
   Costs k (item.Lemma l) (Some cert) a b = (b ≡ a) ⊎ (IsAffected k l cert × (b ≡ a + checked library k (goal_of l) cert))
 
-  -- and so for the entries from a place on
+  -- no more than that
+  abbrev pub CostsAtMost : ℕ → Item → Option Cert → ℕ → ℕ → Type 0
+  CostsAtMost k e o a b = (m : ℕ) × Costs k e o a m × (b ≤ m)
+
+  -- what a list of entries from a place on costs, one after the other
   abbrev pub CostsFrom : List (Option Cert) → ℕ → List Item → ℕ → ℕ → Type 0
   CostsFrom proofs k [] a b = b ≡ a
   CostsFrom proofs k (e ∷ es) a b = (m : ℕ) × Costs k e (proof_at proofs k) a m × CostsFrom proofs (k + 1) es m b
@@ -105,3 +115,7 @@ module _ (t : Table) (library : Library) where
 -- from one table to another the steps are those of checking certificates that are affected, each at most once
 abbrev pub OnlyAffected : Table → Table → ℕ → ℕ → Type 0
 OnlyAffected t t' a b = CostsFrom t t'.library t'.proofs 0 t'.library.entries a b
+
+-- no more than that
+abbrev pub AtMostAffected : Table → Table → ℕ → ℕ → Type 0
+AtMostAffected t t' a b = (m : ℕ) × OnlyAffected t t' a m × (b ≤ m)

@@ -1,25 +1,17 @@
 -- The tests of a change of the table.
-use Rattle.std.specs.Prelude.{ℕ, ◌+◌, nat_eq, Bool, true, false, not, ◌&&◌, ◌||◌, if◌then◌else◌, List, [], ◌∷◌, ◌++◌, Option, Some, None, bytes_eq}
-use Rattle.std.specs.List.{list_any}
-use Rattle.rw_terms.specs.declared.term.Sort.{Sort}
-use Rattle.rw_terms.specs.Formed.{same_sort}
-use Rattle.rw_terms.specs.Named.{Named, is_named}
+use Rattle.std.specs.Prelude.{ℕ, ◌+◌, nat_eq, Bool, false, not, ◌&&◌, ◌||◌, if◌then◌else◌, List, [], ◌∷◌, ◌++◌, Option, Some, None}
+use Rattle.rw_terms.specs.Named.{Named}
 use Rattle.rw_faults.specs.Faults.{first_name, predicate_unknown_in}
-use Rattle.rw_goals.specs.declared.library.Definition.{Definition}
 use Rattle.rw_goals.specs.declared.library.Item.{Item}
 use Rattle.rw_goals.specs.declared.library.Item.TheVariants as item
 use Rattle.rw_sequents.specs.declared.line.Cert.{Cert}
-use Rattle.rw_library.specs.Entries.{entry_name, has_lemma, has_definition, before_entry, place_of, sorts_of, heads_of}
+use Rattle.rw_library.specs.Entries.{entry_name, has_lemma, has_definition, before_entry, place_of, heads_of}
 use Rattle.rw_library.specs.Naming.{item_names, cert_names}
+use Rattle.rw_library.specs.Parameters.{first_repeated, keeps_sorts}
 use Rattle.rw_lemmas.specs.declared.error.LemmaError.{LemmaError}
 use Rattle.rw_lemmas.specs.declared.error.LemmaError.TheVariants as error
 use Rattle.rw_lemmas.specs.States.{proof_at}
 use Rattle.rw_lemmas.specs.Table.{Table, with_moved}
-
--- the first parameter whose name one before it has, behind those that are seen
-abbrev pub first_repeated : List Named → List Named → Option (List ℕ)
-first_repeated seen [] = None
-first_repeated seen (p ∷ params) = if list_any (is_named p.0) seen then Some p.0 else first_repeated (seen ++ p ∷ []) params
 
 -- the name is there as the other kind, or a parameter stands twice
 abbrev pub twice : Bool → List ℕ → List Named → Option (List ℕ)
@@ -42,18 +34,6 @@ late_in before (item.Lemma l) = None
 abbrev pub first_late : List Item → List Item → Option (List ℕ)
 first_late before [] = None
 first_late before (e ∷ es) = first_name (late_in before e) (first_late (before ++ e ∷ []) es)
-
-abbrev pub same_sorts : List Sort → List Sort → Bool
-same_sorts [] [] = true
-same_sorts [] (t ∷ ts) = false
-same_sorts (s ∷ ss) [] = false
-same_sorts (s ∷ ss) (t ∷ ts) = same_sort s t && same_sorts ss ts
-
--- whether a definition that is set again keeps the sorts of its parameters
-abbrev pub keeps_sorts : List Item → Definition → Bool
-keeps_sorts [] d = true
-keeps_sorts (item.Definition e ∷ es) d = if bytes_eq e.name d.name then same_sorts (sorts_of e.params) (sorts_of d.params) else keeps_sorts es d
-keeps_sorts (item.Lemma l ∷ es) d = keeps_sorts es d
 
 abbrev pub proof_names : List ℕ → Option Cert → Bool
 proof_names x None = false
@@ -90,7 +70,7 @@ in_use (Some x) = Some (error.InUse x)
 
 -- what uses a definition would be ill-formed where the sorts of its parameters change
 abbrev pub changed_user : Table → Item → Option (List ℕ)
-changed_user t (item.Definition d) = if keeps_sorts t.library.entries d then None else user_of t d.name
+changed_user t (item.Definition d) = if keeps_sorts d t.library.entries then None else user_of t d.name
 changed_user t (item.Lemma l) = None
 
 -- the tests of an entry that is set

@@ -1,6 +1,6 @@
 //! Checking the certificate of a lemma.
 
-ghost use Rattle.std.specs.Prelude.{◌≡◌, ◌+◌, IfOk, IfErr, Some, option_copied};
+ghost use Rattle.std.specs.Prelude.{◌≡◌, ◌+◌, ◌≤◌, IfOk, IfErr, Some, option_copied};
 ghost use Rattle.rw_goals.specs.declared.library.Item.{Item};
 ghost use Rattle.rw_citations.specs.Goal.{goal_of};
 ghost use Rattle.rw_sequents.specs.After.{IsCounted, checked};
@@ -40,6 +40,7 @@ pub fn checked<L: Ledger>(
     ensures status { IfOk result (λ s. s ≡ status_at library.now place (Item.Lemma lemma.now) (Some cert.now)) }
     ensures err { IfErr result (λ e. e ≡ LemmaError.Memory) }
     ensures cost { IfOk result (λ _. steps.new ≡ steps.old + checked library.now place (goal_of lemma.now) cert.now) }
+    ensures most { steps.new ≤ steps.old + checked library.now place (goal_of lemma.now) cert.now }
 {
     let goal = goal_of(alloc, lemma)?;
     let verdict = check(alloc, library, place, &goal, cert, steps)?;

@@ -7,7 +7,6 @@ ghost use Rattle.rw_library.specs.Entries.{sorts_of};
 ghost use Rattle.rw_faults.specs.Initial.{is_listed};
 ghost use Rattle.rw_lemmas.specs.Differing.{Same, Tells, Covers, Keeps, ReachesOne, TellsChanges, meets, next_user};
 
-use crate::refusal::same_sorts;
 use crate::same::{same_definition, same_lemma};
 use rw_citations::finding::{definition_of, lemma_of};
 use rw_faults::initial::is_listed;
@@ -15,6 +14,7 @@ use rw_goals::library::{Definition, Item, Lemma, parameters_of};
 use rw_items::Items;
 use rw_library::entries::entry_name;
 use rw_library::naming::applies;
+use rw_library::parameters::same_sorts;
 use rw_terms::name::Name;
 use rw_terms::term::{Formula, Sort};
 use std::alloc::{AllocError, Global};

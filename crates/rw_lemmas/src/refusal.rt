@@ -1,10 +1,8 @@
 //! The tests of a change of the table.
 
 ghost use Rattle.std.specs.Prelude.{◌≡◌, not, nat_eq, ◌&&◌, IfOk, [], option_copied};
-ghost use Rattle.std.specs.List.{list_any};
-ghost use Rattle.rw_terms.specs.Named.{is_named};
-ghost use Rattle.rw_library.specs.Entries.{place_of, sorts_of};
-ghost use Rattle.rw_lemmas.specs.Refusals.{in_use, ordered, first_repeated, twice, twice_of, late_of, late_in, first_late, same_sorts, keeps_sorts, proof_names, uses, user_from, changed_user, set_refusal};
+ghost use Rattle.rw_library.specs.Entries.{place_of};
+ghost use Rattle.rw_lemmas.specs.Refusals.{in_use, ordered, twice, twice_of, late_of, late_in, first_late, proof_names, uses, user_from, changed_user, set_refusal};
 
 use crate::anew::proof_at;
 use crate::error::LemmaError;
@@ -14,6 +12,7 @@ use rw_library::entries::{
     before_entry, entry_name, has_definition, has_lemma, heads_of, place_of,
 };
 use rw_library::naming::{cert_names, item_names};
+use rw_library::parameters::{first_repeated, keeps_sorts};
 use rw_sequents::line::Cert;
 use rw_terms::name::Name;
 use rw_terms::sameness::same_sort;
@@ -91,30 +90,6 @@ fn twice(clash: bool, name: &Name, params: &[(Name, Sort)]) -> Option<Name>
     first_repeated(params)
 }
 
-// The first parameter whose name one before it has.
-fn first_repeated(params: &[(Name, Sort)]) -> Option<Name>
-    ensures { result ≡ first_repeated [] params.now }
-{
-    for i in 0..params.len() {
-        let (name, _) = &params[i];
-        if any_named(&params[..i], name) {
-            return Some(name.copy());
-        }
-    }
-    None
-}
-
-fn any_named(params: &[(Name, Sort)], name: &Name) -> bool
-    ensures { result ≡ list_any (is_named name.now) params.now }
-{
-    for (other, _) in params {
-        if other.is(name) {
-            return true;
-        }
-    }
-    false
-}
-
 fn late_of(alloc: Global, entries: &[Item], entry: &Item) -> Result<Option<Name>, AllocError>
     ensures { IfOk result (λ name. name ≡ late_of entries.now entry.now) }
 {
@@ -164,7 +139,7 @@ fn changed_user(entries: &[Item], proofs: &[Option<Cert>], entry: &Item) -> Opti
 {
     match entry {
         Item::Definition(definition) => {
-            if keeps_sorts(entries, definition) {
+            if keeps_sorts(definition, entries) {
                 None
             } else {
                 user_of(entries, proofs, &definition.name)
@@ -172,36 +147,6 @@ fn changed_user(entries: &[Item], proofs: &[Option<Cert>], entry: &Item) -> Opti
         }
         Item::Lemma(_) => None,
     }
-}
-
-fn keeps_sorts(entries: &[Item], definition: &Definition) -> bool
-    ensures { result ≡ keeps_sorts entries.now definition.now }
-{
-    for entry in entries {
-        if let Item::Definition(old) = entry {
-            if old.name.is(&definition.name) {
-                return same_sorts(old.params.as_slice(), definition.params.as_slice());
-            }
-        }
-    }
-    true
-}
-
-/// Whether the parameters have the same sorts.
-pub fn same_sorts(one: &[(Name, Sort)], other: &[(Name, Sort)]) -> bool
-    ensures { result ≡ same_sorts (sorts_of one.now) (sorts_of other.now) }
-{
-    if one.len() != other.len() {
-        return false;
-    }
-    for i in 0..one.len() {
-        let (_, sort) = &one[i];
-        let (_, same) = &other[i];
-        if !same_sort(*sort, *same) {
-            return false;
-        }
-    }
-    true
 }
 
 // The first other entry whose body, statement or certificate names the entry of this name.

@@ -1,14 +1,17 @@
 //! Equality of certificates, lemmas and definitions.
 
-ghost use Rattle.std.specs.Prelude.{◌≡◌, ◌↔◌, IsTrue};
+ghost use Rattle.std.specs.Prelude.{◌≡◌, ◌↔◌, IfOk, IsTrue};
+ghost use Rattle.rw_citations.specs.Goal.{goal_of};
 
 use rw_arith::line::{LinLine, Part};
+use rw_citations::goal::goal_of;
 use rw_goals::library::{Definition, Lemma};
 use rw_sequents::line::{Cert, CertLine};
 use rw_terms::name::Name;
-use rw_terms::sameness::{same, same_term};
+use rw_terms::sameness::{same, same_term, same_terms};
 use rw_terms::sequent::Sequent;
-use rw_terms::term::{Formula, Sort, Term};
+use rw_terms::term::{Formula, Sort};
+use std::alloc::{AllocError, Global};
 
 /// Whether two lemmas are one.
 pub fn same_lemma(one: &Lemma, other: &Lemma) -> bool
@@ -17,6 +20,15 @@ pub fn same_lemma(one: &Lemma, other: &Lemma) -> bool
     one.name.is(&other.name)
         && same_params(one.params.as_slice(), other.params.as_slice())
         && same_sequent(&one.sequent, &other.sequent)
+}
+
+/// Whether two lemmas have one goal. Their names, and parameters that are not free in their formulas, make no difference.
+pub fn same_goal(alloc: Global, one: &Lemma, other: &Lemma) -> Result<bool, AllocError>
+    ensures { IfOk result (λ b. IsTrue b ↔ (goal_of one.now ≡ goal_of other.now)) }
+{
+    let goal = goal_of(alloc, one)?;
+    let wanted = goal_of(alloc, other)?;
+    Ok(same_sequent(&goal, &wanted))
 }
 
 /// Whether two definitions are one.
@@ -71,20 +83,6 @@ fn same_formulas(ones: &[Formula], others: &[Formula]) -> bool
     }
     for i in 0..ones.len() {
         if !same(&ones[i], &others[i]) {
-            return false;
-        }
-    }
-    true
-}
-
-fn same_terms(ones: &[Term], others: &[Term]) -> bool
-    ensures { IsTrue result ↔ (ones.now ≡ others.now) }
-{
-    if ones.len() != others.len() {
-        return false;
-    }
-    for i in 0..ones.len() {
-        if !same_term(&ones[i], &others[i]) {
             return false;
         }
     }

@@ -5,12 +5,13 @@ ghost use Rattle.rw_sequents.specs.declared.line.Cert.{Cert};
 ghost use Rattle.rw_goals.specs.declared.library.Item.{Item};
 ghost use Rattle.std.specs.Option.{IfSome};
 ghost use Rattle.rw_sequents.specs.After.{IsCounted};
+ghost use Rattle.rw_citations.specs.Goal.{goal_of};
 ghost use Rattle.rw_library.specs.Entries.{has_entry};
 ghost use Rattle.rw_lemmas.specs.declared.error.LemmaError.{LemmaError};
 ghost use Rattle.rw_lemmas.specs.Citing.{cited_names};
 ghost use Rattle.rw_lemmas.specs.States.{AreCounted, proof_at, status_at, statuses_from, status_from, proof_from};
 ghost use Rattle.rw_lemmas.specs.Table.{Table, IsTable, empty, anew, status_of, proof_of, with_entry, with_moved, without};
-ghost use Rattle.rw_lemmas.specs.Affected.{IsAffected, Costs, OnlyAffected};
+ghost use Rattle.rw_lemmas.specs.Affected.{goal_there, IsAffected, Costs, CostsAtMost, OnlyAffected, AtMostAffected};
 ghost use Rattle.rw_lemmas.specs.Differing.{TellsChanges};
 ghost use Rattle.rw_lemmas.specs.Refusals.{set_refusal, move_refusal, remove_refusal};
 
@@ -20,7 +21,7 @@ use crate::differing::{Changes, changes_between};
 use crate::error::LemmaError;
 use crate::placing::{copy_proofs, move_to, proof_of_entry, put_at, take_out};
 use crate::refusal::{order_refusal, set_refusal, use_refusal};
-use crate::same::{same_cert, same_lemma};
+use crate::same::{same_cert, same_goal};
 use crate::status::LemmaStatus;
 use crate::staying::reads_change;
 use rw_goals::library::{Item, Lemma, Library};
@@ -29,7 +30,7 @@ use rw_library::entries::{entry_name, is_entry, is_lemma, place_of};
 use rw_sequents::line::Cert;
 use rw_steps::Steps;
 use rw_terms::name::Name;
-use std::alloc::Global;
+use std::alloc::{AllocError, Global};
 use std::marker::Model;
 use std::sync::ledger::Ledger;
 
@@ -104,7 +105,8 @@ impl Lemmas {
 
     /// The lemmas that the certificate cites and, where it has an unfold line, the predicates in its formulas, in the order in which they first come.
     pub fn cites(&self, cert: &Cert) -> Result<Items<Name>, LemmaError>
-        ensures { IfOk result (λ names. names ≡ cited_names cert.now) }
+        ensures ok { IfOk result (λ names. names ≡ cited_names cert.now) }
+        ensures err { IfErr result (λ e. e ≡ LemmaError.Memory) }
     {
         let names = cited_names(self.alloc, cert)?;
         Ok(names)
@@ -141,6 +143,7 @@ impl Lemmas {
         ensures same { OnErr result (self.new ≡ self.old) }
         ensures refused { IfErr result (λ e. (e ≡ LemmaError.Memory) ⊎ (steps.new ≡ steps.old)) }
         ensures cost { OnOk result (OnlyAffected self.old self.new steps.old steps.new) }
+        ensures memory { OnErr result (AtMostAffected self.old (with_entry self.old entry proof) steps.old steps.new) }
     {
         self.put(&entry, &proof, steps)
     }
@@ -159,6 +162,7 @@ impl Lemmas {
         ensures same { OnErr result (self.new ≡ self.old) }
         ensures refused { IfErr result (λ e. (e ≡ LemmaError.Memory) ⊎ (steps.new ≡ steps.old)) }
         ensures cost { OnOk result (OnlyAffected self.old self.new steps.old steps.new) }
+        ensures memory { OnErr result (AtMostAffected self.old (with_entry self.old entry.now proof.now) steps.old steps.new) }
     {
         let entries = self.library.entries.as_slice();
         if let Some(refusal) = set_refusal(self.alloc, entries, self.proofs.as_slice(), entry)? {
@@ -188,6 +192,7 @@ impl Lemmas {
         ensures err { IfErr result (λ e. e ≡ LemmaError.Memory) }
         ensures same { OnErr result (self.new ≡ self.old) }
         ensures cost { OnOk result (OnlyAffected self.old self.new steps.old steps.new) }
+        ensures memory { OnErr result (AtMostAffected self.old (record { library = library; proofs = proofs }) steps.old steps.new) }
     {
         let statuses = self.statuses_in(&library, proofs.as_slice(), steps)?;
         self.library = library;
@@ -208,6 +213,7 @@ impl Lemmas {
         ensures statuses { IfOk result (λ ss. ss ≡ statuses_from library.now proofs.now 0 library.now.entries) }
         ensures err { IfErr result (λ e. e ≡ LemmaError.Memory) }
         ensures cost { IfOk result (λ _. OnlyAffected self.now (record { library = library.now; proofs = proofs.now }) steps.old steps.new) }
+        ensures memory { OnErr result (AtMostAffected self.now (record { library = library.now; proofs = proofs.now }) steps.old steps.new) }
     {
         let entries = library.entries.as_slice();
         let changes = changes_between(self.alloc, self.library.entries.as_slice(), entries)?;
@@ -241,6 +247,7 @@ impl Lemmas {
         ensures status { IfOk result (λ s. s ≡ status_at library.now place entry.now (option_copied proof.entry)) }
         ensures err { IfErr result (λ e. e ≡ LemmaError.Memory) }
         ensures cost { IfOk result (λ _. Costs self.now library.now place entry.now (option_copied proof.entry) steps.old steps.new) }
+        ensures memory { OnErr result (CostsAtMost self.now library.now place entry.now (option_copied proof.entry) steps.old steps.new) }
     {
         match (entry, proof) {
             (Item::Lemma(lemma), Some(cert)) => {
@@ -265,14 +272,15 @@ impl Lemmas {
         ensures status { IfOk result (λ s. s ≡ status_at library.now place (Item.Lemma lemma.now) (Some cert.now)) }
         ensures err { IfErr result (λ e. e ≡ LemmaError.Memory) }
         ensures cost { IfOk result (λ _. Costs self.now library.now place (Item.Lemma lemma.now) (Some cert.now) steps.old steps.new) }
+        ensures memory { OnErr result (CostsAtMost self.now library.now place (Item.Lemma lemma.now) (Some cert.now) steps.old steps.new) }
     {
-        match self.kept(changes, library, place, lemma, cert) {
+        match self.kept(changes, library, place, lemma, cert)? {
             Some(status) => Ok(status),
             None => checked(self.alloc, library, place, lemma, cert, steps),
         }
     }
 
-    // The status that the lemma has here, if it has this certificate and that reads nothing that differs.
+    // The status that the lemma has here, if it has this goal and this certificate and that reads nothing that differs.
     fn kept(
         &self,
         changes: &Changes,
@@ -280,35 +288,43 @@ impl Lemmas {
         place: u32,
         lemma: &Lemma,
         cert: &Cert,
-    ) -> Option<LemmaStatus>
+    ) -> Result<Option<LemmaStatus>, AllocError>
         requires told { TellsChanges self.now.library.entries library.now.entries changes.now }
         requires within { place ≤ length library.now.entries }
-        ensures status { IfSome result (λ s. s ≡ status_at library.now place (Item.Lemma lemma.now) (Some cert.now)) }
-        ensures affected { result ≡ None → IsAffected self.now library.now place lemma.now cert.now }
+        ensures status { IfOk result (λ o. IfSome o (λ s. s ≡ status_at library.now place (Item.Lemma lemma.now) (Some cert.now))) }
+        ensures affected { IfOk result (λ o. o ≡ None → IsAffected self.now library.now place lemma.now cert.now) }
     {
         let entries = self.library.entries.as_slice();
         let old = place_of(entries, &lemma.name);
         let status = self.status_there(old, lemma, cert)?;
         let after = &library.entries.as_slice()[..place as usize];
         if reads_change(changes, &entries[..old], after, lemma, cert) {
-            return None;
+            return Ok(None);
         }
-        Some(status)
+        Ok(status)
     }
 
-    // The status in a place, if the lemma stands there with this certificate.
+    // The status in a place, if a lemma stands there with this goal and this certificate.
     #[tactic(auto, using(crate::proofs::Unaffected::no_gap))]
-    fn status_there(&self, place: usize, lemma: &Lemma, cert: &Cert) -> Option<LemmaStatus>
-        ensures status { IfSome result (λ s. slice_get (anew self.now) place ≡ Some s) }
-        ensures lemma { IfSome result (λ s. slice_get self.now.library.entries place ≡ Some (Item.Lemma lemma.now)) }
-        ensures cert { IfSome result (λ s. proof_at self.now.proofs place ≡ Some cert.now) }
-        ensures none { result ≡ None → slice_get self.now.library.entries place ≡ Some (Item.Lemma lemma.now) → proof_at self.now.proofs place ≡ Some cert.now → ⊥ }
+    fn status_there(
+        &self,
+        place: usize,
+        lemma: &Lemma,
+        cert: &Cert,
+    ) -> Result<Option<LemmaStatus>, AllocError>
+        ensures status { IfOk result (λ o. IfSome o (λ s. slice_get (anew self.now) place ≡ Some s)) }
+        ensures goal { IfOk result (λ o. IfSome o (λ _. goal_there (slice_get self.now.library.entries place) ≡ Some (goal_of lemma.now))) }
+        ensures cert { IfOk result (λ o. IfSome o (λ _. proof_at self.now.proofs place ≡ Some cert.now)) }
+        ensures none { IfOk result (λ o. o ≡ None → goal_there (slice_get self.now.library.entries place) ≡ Some (goal_of lemma.now) → proof_at self.now.proofs place ≡ Some cert.now → ⊥) }
     {
-        let here = at(self.library.entries.as_slice(), place);
-        if is_there(here, lemma) && has_cert(proof_at(self.proofs.as_slice(), place), cert) {
-            return at(self.statuses.as_slice(), place).copied();
+        if !has_cert(proof_at(self.proofs.as_slice(), place), cert) {
+            return Ok(None);
         }
-        None
+        let here = at(self.library.entries.as_slice(), place);
+        if has_goal(self.alloc, here, lemma)? {
+            return Ok(at(self.statuses.as_slice(), place).copied());
+        }
+        Ok(None)
     }
 
     /// Moves an entry to a place, counted from 0; the others keep their order.
@@ -326,6 +342,7 @@ impl Lemmas {
         ensures same { OnErr result (self.new ≡ self.old) }
         ensures refused { IfErr result (λ e. (e ≡ LemmaError.Memory) ⊎ (steps.new ≡ steps.old)) }
         ensures cost { OnOk result (OnlyAffected self.old self.new steps.old steps.new) }
+        ensures memory { OnErr result (AtMostAffected self.old (with_moved self.old name.now to) steps.old steps.new) }
     {
         let place = place_of(self.library.entries.as_slice(), name);
         let mut library = self.library.copy(self.alloc)?;
@@ -380,12 +397,16 @@ fn status_from(entries: &[Item], statuses: &[LemmaStatus], name: &Name) -> Optio
     None
 }
 
-fn is_there(entry: Option<&Item>, lemma: &Lemma) -> bool
-    ensures { IsTrue result ↔ (option_copied entry.entry ≡ Some (Item.Lemma lemma.now)) }
+fn has_goal(alloc: Global, entry: Option<&Item>, lemma: &Lemma) -> Result<bool, AllocError>
+    ensures { IfOk result (λ b. IsTrue b ↔ (goal_there (option_copied entry.entry) ≡ Some (goal_of lemma.now))) }
 {
     match entry {
-        Some(Item::Lemma(there)) => same_lemma(there, lemma),
-        _ => false,
+        Some(Item::Lemma(there)) => {
+            let same = same_goal(alloc, there, lemma)?;
+            Ok(same)
+        }
+        Some(Item::Definition(_)) => Ok(false),
+        None => Ok(false),
     }
 }
 

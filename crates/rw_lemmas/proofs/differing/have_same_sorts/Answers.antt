@@ -1,6 +1,6 @@
 use Rattle.std.proofs.Common.{sym, ◌∙◌}
 use Rattle.rw_library.specs.Entries.{sorts_of}
-use Rattle.rw_lemmas.proofs.Sorts.{sorts_same, sorts_found}
+use Rattle.rw_library.proofs.Sorts.{sorts_same, sorts_found}
 use Rattle.rw_lemmas.proofs.differing.have_same_sorts.Goals as goal
 
 pub returns : goal.returns
