@@ -24,12 +24,12 @@ use Rattle.rw_programs.specs.Scoped.{with_local, with_entries}
 use Rattle.rw_programs.specs.Tables.{Table}
 use Rattle.rw_programs.specs.Meaning.{Bodies, bodies, bodies_before, MayEnd, Sure, ends_by, sure_by}
 use Rattle.rw_programs.specs.Refine.{is_value, is_value_entry, HasValues}
-use Rattle.rw_meaning.specs.Filling.{fill, FitsIn}
+use Rattle.rw_meaning.specs.Filling.{fill}
 use Rattle.rw_meaning.proofs.Tests.{same_bytes, fresh_is}
 use Rattle.rw_meaning.proofs.Scopes.{Extends, extends}
 use Rattle.rw_meaning.proofs.Entering.{local_fits}
 use Rattle.rw_loops.specs.Laws.{block_misfit, block_made}
-use Rattle.rw_loops.specs.Sound.{IsSound}
+use Rattle.rw_soundness.specs.Sound.{FitsWith, IsSoundWhere}
 use Rattle.rw_loops.proofs.Placed.{IsPlaced, not_in_scope, no_variable, variable_in}
 use Rattle.rw_loops.proofs.Standing.{states_agree}
 
@@ -92,8 +92,8 @@ module _ (context : Context) (heads : List Head) (w : Spec) (x : Name) (sort : S
       go true i = absurd (there (ap (λ z. find (has_name z) scope) (same_bytes y x i) ∙ fresh))
       go false i = i
 
-  enter_fits : (E : Table) (s : State) (v : Value) → FitsIn E context.opened scope s → HasSort v sort → FitsIn E context.opened inner (with_own s (put x (Some v) s.own))
-  enter_fits E s v fits hv = record { names = local_fits scope x sort inner (local_is scope x sort no_misfit).taken s.own v fits.names hv; parts = fits.parts }
+  enter_fits : (s : State) (v : Value) → FitsMap scope s.own → HasSort v sort → FitsMap inner (put x (Some v) s.own)
+  enter_fits s v fits hv = local_fits scope x sort inner (local_is scope x sort no_misfit).taken s.own v fits hv
 
   off_local : (m : Map) (v : Option Value) (y : Name) → bytes_eq y x ≡ false → put x v m y ≡ m y
   off_local m v y i = rw i refl
@@ -143,13 +143,13 @@ module _ (context : Context) (heads : List Head) (w : Spec) (x : Name) (sort : S
           let same = h.sorts y (in_last w.frame x y ∙ rw i refl) in
           subst (SameSort (s.own y)) (sym (off_local m.own None y j)) (subst (λ u. SameSort u (m.own y)) (off_local s.own (Some v) y j) same)
 
-  pub block_sound : IsSound context w (block_made context w x sort)
-  block_sound fixed E p k ks valid kids s fits has h = (
+  pub block_sound : (others : Name → Map) → IsSoundWhere (FitsWith others) context w (block_made context w x sort)
+  block_sound others fixed E p k ks valid kids s fits has h = (
     block_sure E (bodies E p k) (bodies_before E p) ks x sort s (λ v hv. (better v hv).0),
     λ t e. let r = block_ends E (bodies E p k) (bodies_before E p) ks x sort s t e in
         let i = (better r.0 r.2).1 r.1 r.3 in
         subst (λ t. Within w.frame s t × Holds E.library w.post s t) (sym r.4) (
-          leave_within s r.1 r.0 fits.names i.0,
+          leave_within s r.1 r.0 fits.0 i.0,
           kept E.library w.post (with_own s (put x (Some r.0) s.own)) r.1 s (with_own r.1 (put x None r.1.own)) placed.post.1
               (λ y j. off_local s.own (Some r.0) y j) (λ y j. sym (off_local r.1.own None y j)) i.1,
         ),
@@ -159,5 +159,5 @@ module _ (context : Context) (heads : List Head) (w : Spec) (x : Name) (sort : S
           × ((m : State) → MayEnd E p k (ks 1) (with_own s (put x (Some v) s.own)) m → Within (w.frame ++ x ∷ []) (with_own s (put x (Some v) s.own)) m × Holds E.library w.post (with_own s (put x (Some v) s.own)) m)
       better v hv =
           let s' : State = with_own s (put x (Some v) s.own) in
-          kids.0 s' (enter_fits E s v fits hv) (enter_values fixed s v has)
+          kids.0 s' (enter_fits s v fits.0 hv, fits.1) (enter_values fixed s v has)
           (kept E.library w.pre s s s' s' placed.pre.1 (λ y j. sym (off_local s.own (Some v) y j)) (λ y j. sym (off_local s.own (Some v) y j)) h)

@@ -15,7 +15,8 @@ use Rattle.rw_subst.specs.Conj.{conj}
 use Rattle.rw_subst.specs.Definedness.{appended, guard_conditions_step, guard_conditions, guard_definedness}
 use Rattle.rw_subst.proofs.Every.{every_formula}
 use Rattle.rw_programs.specs.State.{State, Holds}
-use Rattle.rw_loops.specs.Guards.{disj_with, disj, guards_definedness}
+use Rattle.rw_subst.specs.Conj.{disj_with, disj}
+use Rattle.rw_loops.specs.Guards.{guards_definedness}
 
 module _ (scope : List Entry) where
   conditions_of_or : (f g : Formula) → guard_conditions scope (formula.Or f g) ≡ guard_conditions scope f ++ guard_conditions scope g

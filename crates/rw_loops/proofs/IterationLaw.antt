@@ -37,15 +37,14 @@ use Rattle.rw_programs.specs.State.{Name, State, Holds, Within}
 use Rattle.rw_programs.specs.Tables.{Table}
 use Rattle.rw_programs.specs.Meaning.{bodies, bodies_before, sure_by, ends_by, Chain, at_least_0, IsBound}
 use Rattle.rw_programs.specs.Refine.{HasValues}
-use Rattle.rw_programs.proofs.Frames.{within_refl, within_trans}
+use Rattle.rw_programs.proofs.Frames.{within_fits, within_refl, within_trans}
 use Rattle.rw_programs.proofs.Rules.{within_values}
-use Rattle.rw_meaning.specs.Filling.{FitsIn}
-use Rattle.rw_meaning.proofs.Contexts.{within_fits_in}
-use Rattle.rw_loops.specs.Guards.{disj, guards_definedness}
+use Rattle.rw_programs.proofs.Beside.{FitsBeside}
+use Rattle.rw_subst.specs.Conj.{disj}
+use Rattle.rw_loops.specs.Guards.{guards_definedness}
 use Rattle.rw_loops.specs.Code.{code_misfit}
 use Rattle.rw_loops.specs.Laws.{not_below_0, is_less, turn, loop_post, loop_code, do_kid, do_made, do_misfit}
-use Rattle.rw_soundness.specs.Sound.{KidsMeet}
-use Rattle.rw_loops.specs.Sound.{IsSound}
+use Rattle.rw_soundness.specs.Sound.{FitsWith, KidsMeetWhere, IsSoundWhere}
 use Rattle.rw_loops.proofs.GuardLemmas.{Denies, definedness_of_disj, each_defined, some_holds, both_hold}
 use Rattle.rw_loops.proofs.Plain.{guard_of_code}
 use Rattle.rw_loops.proofs.Placed.{IsPlaced, owed_holds, IsCode, is_code}
@@ -140,7 +139,7 @@ module _ (context : Context) (heads : List Head) (w : Spec) (x : Term) (guards :
   variant_sort : sort_in scope [] x ≡ Some Int
   variant_sort = (compared_parts _ _ (sym (at_most_keeps scope heads (v.Lit (pos 0)) x) ∙ (and_parts _ _ keeps_parts).0)).1
 
-  module _ (fixed : Map) (E : Table) (p k : ℕ) (ks : ℕ → Prog) (kids : KidsMeet fixed E p k ks 1 (map (do_kid context w x) guards)) where
+  module _ (others : Name → Map) (fixed : Map) (E : Table) (p k : ℕ) (ks : ℕ → Prog) (kids : KidsMeetWhere (FitsWith others) fixed E p k ks 1 (map (do_kid context w x) guards)) where
     abbrev number : State → ℤ
     number s = whole (value s.own s.own [] x)
 
@@ -150,18 +149,18 @@ module _ (context : Context) (heads : List Head) (w : Spec) (x : Term) (guards :
     abbrev Step : State → State → Type 0
     Step = Turn E (bodies E p k) (bodies_before E p) ks guards
 
-    sure_arms : (s : State) → FitsIn E context.opened scope s → HasValues scope fixed s → Holds E.library w.pre s s → (gs : List Formula) (n : ℕ) → KidsMeet fixed E p k ks n (map (do_kid context w x) gs)
+    sure_arms : (s : State) → FitsBeside others scope s → HasValues scope fixed s → Holds E.library w.pre s s → (gs : List Formula) (n : ℕ) → KidsMeetWhere (FitsWith others) fixed E p k ks n (map (do_kid context w x) gs)
         → Arms (λ g c. Holds E.library g s s → sure_by E (bodies E p k) (bodies_before E p) c s) n gs
     sure_arms s fits has h [] n r = tt
-    sure_arms s fits has h (g ∷ gs) n r = ((λ hg. (r.0 s fits has (both_hold E.library s s w.pre g h hg)).0), sure_arms s fits has h gs (suc n) r.1)
+    sure_arms s fits has h (g ∷ gs) n r = ((λ hg. (r.0 s (fits.names, fits.parts) has (both_hold E.library s s w.pre g h hg)).0), sure_arms s fits has h gs (suc n) r.1)
 
-    end_arms : (s t : State) → FitsIn E context.opened scope s → HasValues scope fixed s → Holds E.library w.pre s s → (gs : List Formula) (n : ℕ) → KidsMeet fixed E p k ks n (map (do_kid context w x) gs)
+    end_arms : (s t : State) → FitsBeside others scope s → HasValues scope fixed s → Holds E.library w.pre s s → (gs : List Formula) (n : ℕ) → KidsMeetWhere (FitsWith others) fixed E p k ks n (map (do_kid context w x) gs)
         → Arms (λ g c. Holds E.library g s s → ends_by E (bodies E p k) (bodies_before E p) c s t → Within w.frame s t × Holds E.library (turn w x) s t) n gs
     end_arms s t fits has h [] n r = tt
-    end_arms s t fits has h (g ∷ gs) n r = ((λ hg e. (r.0 s fits has (both_hold E.library s s w.pre g h hg)).1 t e), end_arms s t fits has h gs (suc n) r.1)
+    end_arms s t fits has h (g ∷ gs) n r = ((λ hg e. (r.0 s (fits.names, fits.parts) has (both_hold E.library s s w.pre g h hg)).1 t e), end_arms s t fits has h gs (suc n) r.1)
 
     -- one turn
-    one_turn : (s t : State) → FitsIn E context.opened scope s → HasValues scope fixed s → Holds E.library w.pre s s → Step s t
+    one_turn : (s t : State) → FitsBeside others scope s → HasValues scope fixed s → Holds E.library w.pre s s → Step s t
         → Within w.frame s t × Holds E.library w.pre t t × (pos 0 ≤ℤ number t) × (number t <ℤ number s)
     one_turn s t fits has h e =
         let i = turn_ends E (bodies E p k) (bodies_before E p) ks (Within w.frame s t × Holds E.library (turn w x) s t) guards s t (end_arms s t fits has h guards 1 kids) e in
@@ -178,11 +177,11 @@ module _ (context : Context) (heads : List Head) (w : Spec) (x : Term) (guards :
     abbrev After : ℕ → State → State → Type 0
     After n s t = Within w.frame s t × Holds E.library w.pre t t × ((number t +ℤ pos n) ≤ℤ number s) × ((n ≡ 0) ⊎ (pos 0 ≤ℤ number t))
 
-    after : (s : State) → FitsIn E context.opened scope s → HasValues scope fixed s → Holds E.library w.pre s s → (n : ℕ) (t : State) → Chain Step n s t → After n s t
+    after : (s : State) → FitsBeside others scope s → HasValues scope fixed s → Holds E.library w.pre s s → (n : ℕ) (t : State) → Chain Step n s t → After n s t
     after s fits has h zero t e = subst (After 0 s) e (within_refl scope w.frame s fits.names, h, omega (arith, ints), inl refl)
     after s fits has h (suc n) t e =
         let i = after s fits has h n e.0 e.1 in
-        let j = one_turn e.0 t (within_fits_in E context.opened scope w.frame s e.0 fits i.0) (within_values scope fixed w.frame s e.0 placed.keeps_values has i.0) i.1 e.2 in
+        let j = one_turn e.0 t (within_fits scope w.frame s e.0 fits i.0) (within_values scope fixed w.frame s e.0 placed.keeps_values has i.0) i.1 e.2 in
         let less : (number t +ℤ pos (suc n)) ≤ℤ number s = omega (arith, ints, i.2, j.3) in
         (within_trans w.frame s e.0 t i.0 j.0, j.1, less, inr j.2)
 
@@ -190,24 +189,27 @@ module _ (context : Context) (heads : List Head) (w : Spec) (x : Term) (guards :
     below z (pos m) n h l = omega (arith, ints)
     below z (negsuc m) n h l = omega (arith, ints)
 
-    pub turns_bound : (s t : State) (n : ℕ) → FitsIn E context.opened scope s → HasValues scope fixed s → Holds E.library w.pre s s → Chain Step n s t → n ≤ at_least_0 (number s)
+    pub turns_bound : (s t : State) (n : ℕ) → FitsBeside others scope s → HasValues scope fixed s → Holds E.library w.pre s s → Chain Step n s t → n ≤ at_least_0 (number s)
     turns_bound s t n fits has h e =
         let i = after s fits has h n t e in
         ⊎_elim (λ z. subst (λ n. n ≤ at_least_0 (number s)) (sym z) zero-le) (λ up. below (number t) (number s) n i.2 up) i.3
 
-  pub do_sound : IsSound context w (do_made context w x guards)
-  do_sound fixed E p k ks valid kids s fits has h = (
-    do_sure E (bodies E p k) (bodies_before E p) ks x guards s (at_least_0 (number fixed E p k ks kids s)) (λ n t e. turns_bound fixed E p k ks kids s t n fits has h e) (variant_bounds E.by_variant)
-        (λ n t e. let i = after fixed E p k ks kids s fits has h n t e in
-        let f = within_fits_in E context.opened scope w.frame s t fits i.0 in
-        (each_defined t.own t.own guards (defined t f.names i.1), sure_arms fixed E p k ks kids t f (within_values scope fixed w.frame s t placed.keeps_values has i.0) i.1 guards 1 kids)),
+  pub do_sound : (others : Name → Map) → IsSoundWhere (FitsWith others) context w (do_made context w x guards)
+  do_sound others fixed E p k ks valid kids s at has h = (
+    do_sure E (bodies E p k) (bodies_before E p) ks x guards s (at_least_0 (number others fixed E p k ks kids s)) (λ n t e. turns_bound others fixed E p k ks kids s t n fits has h e) (variant_bounds E.by_variant)
+        (λ n t e. let i = after others fixed E p k ks kids s fits has h n t e in
+        let f = within_fits scope w.frame s t fits i.0 in
+        (each_defined t.own t.own guards (defined t f.names i.1), sure_arms others fixed E p k ks kids t f (within_values scope fixed w.frame s t placed.keeps_values has i.0) i.1 guards 1 kids)),
     λ t e. let r = do_ends E (bodies E p k) (bodies_before E p) ks x guards s t e in
-        let i = after fixed E p k ks kids s fits has h r.0.0 t r.0.1 in
+        let i = after others fixed E p k ks kids s fits has h r.0.0 t r.0.1 in
         let none : Denies E.library s t (disj guards) = λ d. some_holds E.library t t guards (initial_free E.library (disj guards) guards_free s t t d) r.1 in
         (i.0, subst (λ f. Holds E.library f s t) (sym shape) (both_hold E.library s t w.pre (formula.Not (disj guards)) (initial_free E.library w.pre placed.pre_initial t s t i.1) (not_holds E.library s t (disj guards) none))),
   )
     where
-      variant_bounds : (b : Bool) → IsBound b x s (at_least_0 (number fixed E p k ks kids s))
+      fits : FitsBeside others scope s
+      fits = record { names = at.0; parts = at.1 }
+
+      variant_bounds : (b : Bool) → IsBound b x s (at_least_0 (number others fixed E p k ks kids s))
       variant_bounds true = refl
       variant_bounds false = tt
 

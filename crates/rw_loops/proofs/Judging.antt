@@ -13,7 +13,7 @@ use Rattle.rw_laws.specs.declared.premises.Premises.{Premises}
 use Rattle.rw_laws.specs.Laws.{Law, fits, misfit, applied, FitsWith, MisfitsBy, Makes, IsRefusal}
 use Rattle.rw_loops.specs.declared.step.LoopStep.{LoopStep}
 use Rattle.rw_loops.specs.declared.step.LoopStep.TheVariants as step
-use Rattle.rw_loops.specs.Guards.{disj}
+use Rattle.rw_subst.specs.Conj.{disj}
 use Rattle.rw_loops.specs.Code.{code_misfit}
 use Rattle.rw_loops.specs.Limits.{is_within, are_within, IsLimitRefusal}
 use Rattle.rw_loops.specs.Laws.{law_with, arms_from, if_premises, if_law, do_misfit, do_premises, do_law, block_misfit, block_premises, block_law, law_of}

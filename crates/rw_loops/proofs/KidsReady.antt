@@ -41,7 +41,7 @@ use Rattle.rw_soundness.proofs.Unchanged.{plain_sort, plain_outside, outside_mor
 use Rattle.rw_soundness.proofs.Readiness.{none_listed}
 use Rattle.rw_soundness.proofs.Longer.{variable_found, ready_longer}
 use Rattle.rw_loops.specs.declared.step.LoopStep.TheVariants as step
-use Rattle.rw_loops.specs.Guards.{disj_with, disj}
+use Rattle.rw_subst.specs.Conj.{disj_with, disj}
 use Rattle.rw_loops.specs.Code.{code_misfit}
 use Rattle.rw_loops.specs.Limits.{sequent_within, child_within, is_within}
 use Rattle.rw_loops.specs.Laws.{law_of, if_kid, if_made, if_law, not_below_0, is_less, turn, loop_code, loop_post, do_kid, do_made, do_misfit, do_law, block_misfit, block_made, block_law}

@@ -4,22 +4,13 @@ use Rattle.std.specs.List.{list_any}
 use Rattle.rw_terms.specs.declared.term.Formula.{Formula}
 use Rattle.rw_terms.specs.declared.scope.Entry.{Entry}
 use Rattle.rw_terms.specs.declared.scope.Head.{Head}
-use Rattle.rw_terms.specs.declared.scope.Kind.{Kind}
-use Rattle.rw_terms.specs.declared.scope.Kind.TheVariants as kind
 use Rattle.rw_terms.specs.Mentions.{formula_mentions}
 use Rattle.rw_faults.specs.Initial.{initial_outside}
 use Rattle.rw_faults.specs.Faults.{is_ill_sorted, unknown_in}
 use Rattle.rw_programs.specs.CodeTest.{is_guard}
+use Rattle.rw_derived.specs.Causes.{is_module_kind}
 use Rattle.rw_programs.specs.declared.applied.Misfit.{Misfit}
 use Rattle.rw_programs.specs.declared.applied.Misfit.TheVariants as cause
-
-abbrev pub is_module_kind : Kind → Bool
-is_module_kind kind.Global = false
-is_module_kind kind.Local = false
-is_module_kind kind.Constant = false
-is_module_kind kind.Value = false
-is_module_kind kind.Outcome = false
-is_module_kind kind.Module = true
 
 -- a name of kind module stands in the formula
 abbrev pub speaks_of_module : List Entry → Formula → Bool

@@ -25,7 +25,8 @@ use Rattle.rw_laws.specs.declared.premises.Premises.{Premises}
 use Rattle.rw_laws.specs.Laws.{Law, fits, misfit, applied, sequent_over}
 use Rattle.rw_loops.specs.declared.step.LoopStep.{LoopStep}
 use Rattle.rw_loops.specs.declared.step.LoopStep.TheVariants as step
-use Rattle.rw_loops.specs.Guards.{disj, guards_definedness}
+use Rattle.rw_subst.specs.Conj.{disj}
+use Rattle.rw_loops.specs.Guards.{guards_definedness}
 use Rattle.rw_loops.specs.Code.{code_misfit}
 use Rattle.rw_loops.specs.Limits.{is_within}
 

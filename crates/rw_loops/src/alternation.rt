@@ -91,5 +91,5 @@ pub fn both(alloc: Global, one: &Formula, other: &Formula) -> Result<Boxed<Formu
 {
     let one = boxed(alloc, one)?;
     let other = boxed(alloc, other)?;
-    Boxed::new(alloc, Formula::And(one, other))
+    rw_terms::joining::both(alloc, one, other)
 }

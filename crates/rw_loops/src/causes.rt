@@ -1,12 +1,13 @@
 //! The first cause why a law does not fit, but for limits.
 
 ghost use Rattle.std.specs.Prelude.{◌≡◌, IfOk};
-ghost use Rattle.rw_loops.specs.Guards.{disj};
+ghost use Rattle.rw_subst.specs.Conj.{disj};
 ghost use Rattle.rw_terms.specs.Same.{same_formula};
-ghost use Rattle.rw_loops.specs.Code.{is_module_kind, speaks_of_module, is_code_in, code_misfit};
+ghost use Rattle.rw_loops.specs.Code.{speaks_of_module, is_code_in, code_misfit};
 ghost use Rattle.rw_loops.specs.Laws.{not_below_0, loop_post, loop_code, do_misfit, block_misfit};
 
 use crate::guards::any_guard;
+use rw_derived::parts::is_module_kind;
 use rw_faults::faults::is_ill_sorted;
 use rw_faults::initial::initial_outside;
 use rw_faults::unknown::unknown_in;
@@ -19,7 +20,7 @@ use rw_terms::formed::is_sort;
 use rw_terms::mention::free_in;
 use rw_terms::name::Name;
 use rw_terms::sameness::same;
-use rw_terms::scope::{Head, Kind, Scope};
+use rw_terms::scope::{Head, Scope};
 use rw_terms::term::{Formula, Sort, Term};
 use std::alloc::{AllocError, Global};
 
@@ -63,15 +64,6 @@ fn speaks_of_module(scope: &Scope, formula: &Formula) -> bool
         }
     }
     false
-}
-
-fn is_module_kind(kind: Kind) -> bool
-    ensures { result ≡ is_module_kind kind }
-{
-    match kind {
-        Kind::Module => true,
-        Kind::Global | Kind::Local | Kind::Constant | Kind::Value | Kind::Outcome => false,
-    }
 }
 
 /// Guards of an alternation that may not stand in code.

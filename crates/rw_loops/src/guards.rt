@@ -4,7 +4,8 @@ ghost use Rattle.std.specs.Prelude.{◌≡◌, ◌<◌, length, true, IfOk, IfEr
 ghost use Rattle.rw_faults.specs.Limits.{is_small};
 ghost use Rattle.rw_subst.specs.Definedness.{guard_definedness};
 ghost use Rattle.rw_laws.specs.Laws.{IsLargeRefusal};
-ghost use Rattle.rw_loops.specs.Guards.{disj, guards_definedness};
+ghost use Rattle.rw_subst.specs.Conj.{disj};
+ghost use Rattle.rw_loops.specs.Guards.{guards_definedness};
 
 use rw_derived::refusing::too_large;
 use rw_items::Boxed;

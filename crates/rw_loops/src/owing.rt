@@ -2,7 +2,8 @@
 
 ghost use Rattle.std.specs.Prelude.{◌≡◌, [], ◌∷◌, IfOk, IfErr};
 ghost use Rattle.rw_laws.specs.Laws.{sequent_over, IsLargeRefusal};
-ghost use Rattle.rw_loops.specs.Guards.{disj, guards_definedness};
+ghost use Rattle.rw_subst.specs.Conj.{disj};
+ghost use Rattle.rw_loops.specs.Guards.{guards_definedness};
 
 use crate::guards::{all_defined, any_guard};
 use rw_derived::making::{alone, one_formula, owed};

@@ -11,6 +11,7 @@ pub mod Sequences
 pub mod Frames
 pub mod Constants
 pub mod Pinned
+pub mod InContexts
 pub mod Sound
 pub mod Replaced
 pub mod Outside

@@ -1,7 +1,7 @@
 use Rattle.std.proofs.Common.{sym, ◌∙◌}
 use Rattle.std.proofs.lemmas.Result.{err_from_is_err_and}
 use Rattle.rw_programs.specs.declared.prog.Prog.TheVariants as prog
-use Rattle.rw_loops.specs.Guards.{disj}
+use Rattle.rw_subst.specs.Conj.{disj}
 use Rattle.rw_loops.specs.Code.{code_misfit}
 use Rattle.rw_loops.specs.Laws.{arms_from, if_premises, if_law}
 use Rattle.rw_loops.proofs.Judging.{makes, refused_first, refused_past, refused_large}

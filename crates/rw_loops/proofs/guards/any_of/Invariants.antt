@@ -1,5 +1,5 @@
 use Rattle.std.proofs.Common.{◌≡◌, drop}
-use Rattle.rw_loops.specs.Guards.{disj_with, disj}
+use Rattle.rw_subst.specs.Conj.{disj_with, disj}
 use Rattle.rw_loops.proofs.guards.any_of.Given as goal
 
 abbrev pub invariant-loop-at : goal.invariant-loop-at

@@ -1,5 +1,8 @@
-use Rattle.rw_loops.proofs.SoundLaws.{laws_are_sound}
+use Rattle.rw_loops.proofs.SoundLaws.{laws_are_sound, laws_beside}
 use Rattle.rw_loops.proofs.laws.soundness.Goals as goal
 
-pub returns : goal.returns
-returns c = laws_are_sound
+pub returns-clause-context : goal.returns-clause-context
+returns-clause-context c = laws_are_sound
+
+pub returns-clause-beside : goal.returns-clause-beside
+returns-clause-beside c = laws_beside
