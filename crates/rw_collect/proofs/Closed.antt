@@ -14,14 +14,14 @@ use Rattle.rw_goals.specs.Library.{definitions_of}
 use Rattle.rw_nodes.specs.declared.edit.Edit.{Edit}
 use Rattle.rw_nodes.specs.Edits.{globals_of, root_of}
 use Rattle.rw_nodes.specs.Parts.{tree_of}
-use Rattle.rw_tree.specs.declared.status.NodeMark.{NodeMark}
-use Rattle.rw_tree.specs.declared.status.Status.TheVariants as status
-use Rattle.rw_tree.specs.Derived.{main_context, root_given, derived, sites}
+use Rattle.rw_anew.specs.declared.status.NodeMark.{NodeMark}
+use Rattle.rw_anew.specs.declared.status.Status.TheVariants as status
+use Rattle.rw_sites.specs.Derived.{main_context, root_given, derived, sites}
 use Rattle.rw_tree.specs.Accepting.{IsGood}
-use Rattle.rw_tree.specs.Anew.{heads_in, mark_of, library_of, anew}
-use Rattle.rw_tree.specs.Uses.{IsClosed}
+use Rattle.rw_anew.specs.Anew.{heads_in, mark_of, library_of, anew}
+use Rattle.rw_anew.specs.Uses.{IsClosed}
 use Rattle.rw_tree.proofs.Same.{made_good}
-use Rattle.rw_tree.proofs.Sites.{sites-out}
+use Rattle.rw_sites.proofs.Sites.{sites-out}
 use Rattle.rw_collect.specs.Code.{code}
 use Rattle.rw_collect.specs.Closed.{heads_by, table, scope_of, CodeRefinesRoot, ClosedRefines}
 use Rattle.rw_collect.proofs.Lists.{each_made}

@@ -32,11 +32,12 @@ use Rattle.rw_nodes.specs.declared.node.Node.{Node, Node-F, out-Node, roll-Node,
 use Rattle.rw_nodes.specs.Edits.{kids_in}
 use Rattle.rw_nodes.specs.Nodes.{layer, IsShaped, AreShaped}
 use Rattle.rw_nodes.proofs.Kids.{kid_each}
-use Rattle.rw_tree.specs.declared.status.Status.TheVariants as status
-use Rattle.rw_tree.specs.Derived.{Site, Sites, derived, derived_by, sites, kid_sites}
-use Rattle.rw_tree.specs.Anew.{certified, needs_from, status_of, heads_in, mark_of}
-use Rattle.rw_tree.specs.Uses.{node_cites}
-use Rattle.rw_tree.proofs.Sites.{sites-out}
+use Rattle.rw_anew.specs.declared.status.Status.TheVariants as status
+use Rattle.rw_sites.specs.Derived.{Site, Sites, derived, derived_by, sites, kid_sites}
+use Rattle.rw_anew.specs.Anew.{needs_from, status_of, heads_in, mark_of}
+use Rattle.rw_nodes.specs.Nodes.{certified}
+use Rattle.rw_anew.specs.Uses.{node_cites}
+use Rattle.rw_sites.proofs.Sites.{sites-out}
 use Rattle.rw_collect.specs.Code.{Codes, before_others, kids_code, kid_program, filled_with, filled_by, code_by, code_step, code}
 use Rattle.rw_collect.proofs.Lists.{each_split}
 use Rattle.rw_collect.proofs.Needs.{Backed, all_valid}

@@ -27,10 +27,12 @@ use Rattle.rw_nodes.specs.declared.edit.Edit.{Edit}
 use Rattle.rw_nodes.specs.declared.node.Node.{Node, out-Node, fold_out-Node}
 use Rattle.rw_nodes.specs.Table.{entries_of, proofs_of}
 use Rattle.rw_nodes.specs.Parts.{tree_of}
-use Rattle.rw_tree.specs.declared.status.NeedState.TheVariants as need
-use Rattle.rw_tree.specs.declared.status.LemmaMark.{LemmaMark}
-use Rattle.rw_tree.specs.Anew.{state_of, proof_at, lemma_marks, certified, library_of, anew}
-use Rattle.rw_tree.specs.Uses.{proof_cites, node_cites_step, node_cites, marked_cites, is_cited, marks_after, is_used, IsClosed}
+use Rattle.rw_anew.specs.declared.status.NeedState.TheVariants as need
+use Rattle.rw_anew.specs.declared.status.LemmaMark.{LemmaMark}
+use Rattle.rw_anew.specs.Anew.{state_of, lemma_marks, library_of, anew}
+use Rattle.rw_nodes.specs.Table.{proof_at}
+use Rattle.rw_nodes.specs.Nodes.{certified}
+use Rattle.rw_anew.specs.Uses.{proof_cites, node_cites_step, node_cites, marked_cites, is_cited, marks_after, is_used, IsClosed}
 use Rattle.rw_collect.proofs.Needs.{certified_good}
 
 -- P of the names that lines cite, where it is so of each name that is cited

@@ -26,12 +26,14 @@ use Rattle.rw_nodes.specs.declared.edit.Edit.TheVariants as edit
 use Rattle.rw_nodes.specs.Table.{table_of, entry_in, entries_of}
 use Rattle.rw_nodes.specs.Parts.{parts_of}
 use Rattle.rw_nodes.proofs.Tabled.{put_entries, prove_entries, without_entries, without_none}
-use Rattle.rw_tree.specs.declared.refusal.EditRefusal.{EditRefusal}
+use Rattle.rw_refusals.specs.declared.refusal.EditRefusal.{EditRefusal}
 use Rattle.rw_tree.specs.Users.{user_in}
-use Rattle.rw_tree.specs.Refusals.{full}
-use Rattle.rw_tree.specs.Entering.{heads_with, same_sorts, keeps_sorts, define_refusal, order_refusal, in_use, sorts_refusal, drop_refusal}
+use Rattle.rw_tree.specs.Accepting.{full}
+use Rattle.rw_library.specs.Parameters.{same_sorts, keeps_sorts}
+use Rattle.rw_refusals.specs.Entering.{heads_with, define_refusal, order_refusal}
+use Rattle.rw_tree.specs.Used.{in_use, sorts_refusal, drop_refusal}
 use Rattle.rw_tree.specs.Accepting.{IsGood, Accepts}
-use Rattle.rw_tree.specs.Anew.{library_of}
+use Rattle.rw_anew.specs.Anew.{library_of}
 use Rattle.rw_tree.proofs.Same.{first_told}
 use Rattle.rw_collect.proofs.Agreeing.{Others, take_heads, keeps_otherwise, known_opens}
 use Rattle.rw_collect.proofs.Served.{heads_in, Serves, same_serve, never_asked, serves_keep, IsKept, AreKept, IsUnused, Fitting, put_serves, without_serves, put_kept, without_kept}

@@ -11,11 +11,11 @@ use Rattle.rw_sequents.specs.declared.line.Verdict.TheVariants as verdicts
 use Rattle.rw_sequents.specs.After.{verdict}
 use Rattle.rw_sequents.specs.Cited.{CitedValid}
 use Rattle.rw_sequents.proofs.Runs.{good_valid}
-use Rattle.rw_tree.specs.declared.status.NeedState.{NeedState}
-use Rattle.rw_tree.specs.declared.status.NeedState.TheVariants as need
-use Rattle.rw_tree.specs.declared.status.Status.{Status}
-use Rattle.rw_tree.specs.declared.status.Status.TheVariants as status
-use Rattle.rw_tree.specs.Anew.{state_by, state_of, needs_from, held_up, pending_from}
+use Rattle.rw_anew.specs.declared.status.NeedState.{NeedState}
+use Rattle.rw_anew.specs.declared.status.NeedState.TheVariants as need
+use Rattle.rw_anew.specs.declared.status.Status.{Status}
+use Rattle.rw_anew.specs.declared.status.Status.TheVariants as status
+use Rattle.rw_anew.specs.Anew.{state_by, state_of, needs_from, held_up, pending_from}
 
 -- a verdict that makes an obligation good is good
 good_verdict : (v : Verdict) → state_by v ≡ need.Good → v ≡ verdicts.Good

@@ -29,13 +29,14 @@ use Rattle.rw_nodes.specs.Table.{table_of, entry_in, entries_of}
 use Rattle.rw_nodes.specs.Edits.{global, is_param, without_param, globals_of, root_of}
 use Rattle.rw_nodes.specs.Parts.{parts_of}
 use Rattle.rw_nodes.proofs.Tabled.{put_entries, prove_entries, without_entries, without_none}
-use Rattle.rw_tree.specs.declared.refusal.EditRefusal.{EditRefusal}
-use Rattle.rw_tree.specs.declared.refusal.EditRefusal.TheVariants as refusal
-use Rattle.rw_tree.specs.declared.refusal.Which.TheVariants as which
-use Rattle.rw_tree.specs.declared.refusal.Spot.TheVariants as spot
-use Rattle.rw_tree.specs.Users.{place_at, root_names, user_in, root_speaks}
-use Rattle.rw_tree.specs.Refusals.{frame_unknown, root_unknown, is_ill_formed, ill_formed_part, past_limit, unknown, ill_formed, root_refusal}
-use Rattle.rw_tree.specs.Entering.{in_use, global_refusal, drop_refusal}
+use Rattle.rw_refusals.specs.declared.refusal.EditRefusal.{EditRefusal}
+use Rattle.rw_refusals.specs.declared.refusal.EditRefusal.TheVariants as refusal
+use Rattle.rw_refusals.specs.declared.refusal.Which.TheVariants as which
+use Rattle.rw_refusals.specs.declared.refusal.Spot.TheVariants as spot
+use Rattle.rw_tree.specs.Users.{root_names, user_in, root_speaks}
+use Rattle.rw_nodes.specs.Edits.{place_at}
+use Rattle.rw_refusals.specs.Refusals.{frame_unknown, root_unknown, is_ill_formed, ill_formed_part, past_limit, unknown, ill_formed, root_refusal}
+use Rattle.rw_tree.specs.Used.{in_use, global_refusal, drop_refusal}
 use Rattle.rw_tree.specs.Accepting.{IsGood}
 use Rattle.rw_tree.proofs.Same.{first_told}
 use Rattle.rw_collect.proofs.Bits.{first_none}

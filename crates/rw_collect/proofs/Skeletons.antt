@@ -32,7 +32,7 @@ use Rattle.rw_derived.specs.Causes.{new_cause, seq_cause, assign_cause, seqcon_c
 use Rattle.rw_laws.specs.Laws.{fits, applied, law_with, law_of, skip_law, weaken_law, strengthen_law, assign_law, follow_law, seq_law, seqcon_law, con_law, contract_law, expand_law, skip_premises, weaken_premises, strengthen_premises, assign_premises, follow_premises, seq_premises, seqcon_premises, con_premises, contract_premises, expand_premises, pin}
 use Rattle.rw_loops.specs.declared.step.LoopStep.{LoopStep}
 use Rattle.rw_loops.specs.declared.step.LoopStep.TheVariants as loop
-use Rattle.rw_loops.specs.Guards.{disj_with, disj}
+use Rattle.rw_subst.specs.Conj.{disj_with, disj}
 use Rattle.rw_terms.specs.Same.{same_formula}
 use Rattle.rw_loops.specs.Code.{code_misfit}
 use Rattle.rw_loops.specs.Laws.{arms_from, if_made, if_law, not_below_0, loop_post, loop_code, do_made, do_misfit, do_law, block_misfit, block_made, block_law}

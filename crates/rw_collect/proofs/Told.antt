@@ -22,10 +22,12 @@ use Rattle.rw_citations.specs.Goal.{scope_of_parameters}
 use Rattle.rw_library.specs.Entries.{has_lemma, has_definition, before_entry, heads_of}
 use Rattle.rw_library.specs.Naming.{item_names}
 use Rattle.rw_nodes.specs.declared.parts.Parts.{Parts}
-use Rattle.rw_tree.specs.declared.refusal.Spot.{Spot}
-use Rattle.rw_tree.specs.Users.{or_spot, beside_names, entry_user, root_names, tree_user, spot_at, user_in, node_user}
-use Rattle.rw_tree.specs.Refusals.{unknown, ill_formed, is_ill_formed}
-use Rattle.rw_tree.specs.Entering.{heads_with, duplicate, body_part, entry_limit, define_refusal, ordered, order_refusal, in_use, lemma_unknown, next_part, ill_formed_from, number_behind, or_part, lemma_part, lemma_refusal}
+use Rattle.rw_refusals.specs.declared.refusal.Spot.{Spot}
+use Rattle.std.specs.Option.{option_or}
+use Rattle.rw_tree.specs.Users.{beside_names, entry_user, root_names, tree_user, spot_at, user_in, node_user}
+use Rattle.rw_refusals.specs.Refusals.{unknown, ill_formed, is_ill_formed}
+use Rattle.rw_refusals.specs.Entering.{heads_with, duplicate, body_part, entry_limit, define_refusal, ordered, order_refusal, lemma_unknown, next_part, ill_formed_from, number_behind, lemma_part, lemma_refusal}
+use Rattle.rw_tree.specs.Used.{in_use}
 use Rattle.rw_tree.proofs.Same.{first_told}
 use Rattle.rw_collect.proofs.Bits.{first_none}
 
@@ -82,7 +84,7 @@ ordered_told (Some x) e = absurd (cc)
 pub order_told : (es : List Item) (d : definitions.Definition) → order_refusal es d ≡ None → predicate_unknown_in (heads_of (before_entry es d.name)) d.body ≡ None
 order_told es d e = ordered_told (predicate_unknown_in (heads_of (before_entry es d.name)) d.body) e
 
-or_part_told : (one two : Option ℕ) → or_part one two ≡ None → (one ≡ None) × (two ≡ None)
+or_part_told : (one two : Option ℕ) → option_or one two ≡ None → (one ≡ None) × (two ≡ None)
 or_part_told None two e = (refl, e)
 or_part_told (Some k) two e = absurd (cc)
 
@@ -129,7 +131,7 @@ pub use_told : (x : List ℕ) (o : Option Spot) → in_use x o ≡ None → o �
 use_told x None e = refl
 use_told x (Some s) e = absurd (cc)
 
-spot_told : (one two : Option Spot) → or_spot one two ≡ None → (one ≡ None) × (two ≡ None)
+spot_told : (one two : Option Spot) → option_or one two ≡ None → (one ≡ None) × (two ≡ None)
 spot_told None two e = (refl, e)
 spot_told (Some s) two e = absurd (cc)
 

@@ -12,8 +12,8 @@ use Rattle.rw_goals.specs.Library.{definitions_of}
 use Rattle.rw_nodes.specs.declared.edit.Edit.{Edit}
 use Rattle.rw_nodes.specs.Edits.{global, globals_of, root_of}
 use Rattle.rw_tree.specs.Accepting.{IsGood}
-use Rattle.rw_tree.specs.Anew.{library_of}
-use Rattle.rw_tree.specs.Uses.{IsClosed}
+use Rattle.rw_anew.specs.Anew.{library_of}
+use Rattle.rw_anew.specs.Uses.{IsClosed}
 use Rattle.rw_collect.specs.Code.{code_of}
 
 -- what the specifications are read by: the definitions of the table; loops go by their variants; no procedures and modules are there

@@ -12,8 +12,8 @@ use Rattle.rw_nodes.specs.declared.node.Node.{Node, Node-F, fold-Node}
 use Rattle.rw_nodes.specs.Edits.{globals_of, root_of}
 use Rattle.rw_nodes.specs.Nodes.{numbered}
 use Rattle.rw_nodes.specs.Parts.{tree_of}
-use Rattle.rw_tree.specs.Derived.{law_at, root_given}
-use Rattle.rw_tree.specs.Anew.{heads_in, library_of}
+use Rattle.rw_sites.specs.Derived.{law_at, root_given}
+use Rattle.rw_anew.specs.Anew.{heads_in, library_of}
 
 -- the program of a node, if it has one, by what the node is given
 abbrev pub Codes : Type 0

@@ -5,7 +5,7 @@ ghost use Rattle.std.specs.Prelude.{ℕ, List};
 ghost use Rattle.rw_citations.specs.WellMade.{WellMade};
 ghost use Rattle.rw_nodes.specs.declared.edit.Edit.{Edit};
 ghost use Rattle.rw_tree.specs.Accepting.{IsGood};
-ghost use Rattle.rw_tree.specs.Anew.{library_of};
+ghost use Rattle.rw_anew.specs.Anew.{library_of};
 ghost use Rattle.rw_collect.specs.Closed.{ClosedRefines};
 
 /// Where accepted edits make a closed derivation, each node has a program, and that of the root refines the root specification.

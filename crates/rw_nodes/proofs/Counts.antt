@@ -39,7 +39,8 @@ size_changed f n m (k ∷ p) e =
     let all : size n ≡ suc (total (map size (out-Node n).kids)) = size-out n in
     omega (arith, inside, kids, all)
 
-total_get : (xs : List Node) (i : ℕ) (x : Node) → slice_get xs i ≡ Some x → size x ≤ total (map size xs)
+-- a node has no more nodes than all
+pub total_get : (xs : List Node) (i : ℕ) (x : Node) → slice_get xs i ≡ Some x → size x ≤ total (map size xs)
 total_get [] i x h = absurd (cc)
 total_get (z ∷ xs) zero x h = let is : z ≡ x = cc in let s : size z ≡ size x = ap size is in omega (arith, s)
 total_get (z ∷ xs) (suc i) x h = let s : size x ≤ total (map size xs) = total_get xs i x h in omega (arith, s)
@@ -76,3 +77,6 @@ total_over (suc c) (y ∷ ys) = let h : total (map size (over (replicate c blank
 -- a node with a new step keeps the kids that have a place, and the others are blank
 pub size_renewed : (s : Option Step) (m : Node) → size (renewed (fresh_node s) m) ≡ suc (total (map size (take (kids_in s) (out-Node m).kids)) + (kids_in s - length (out-Node m).kids))
 size_renewed s m = size-out (renewed (fresh_node s) m) ∙ ap (λ ks. suc (total (map size ks))) (simp out-roll-Node) ∙ ap suc (total_over (kids_in s) (out-Node m).kids)
+
+pub kids_fewer : (node : Node) (kids : List Node) → kids ≡ (out-Node node).kids → size node ≡ suc (total (map size kids))
+kids_fewer node kids is = size-out node ∙ ap (λ ks. suc (total (map size ks))) (sym is)

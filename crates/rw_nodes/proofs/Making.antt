@@ -1,5 +1,5 @@
 -- An edit of a node or an obligation that is there makes the project of the longer list.
-use Rattle.std.proofs.Common.{◌≡◌, ℕ, List, [], ◌∷◌, ◌++◌, refl, ap, sym, ◌∙◌, subst, Option, Some, None, IsSome, Bool, true, false, if◌then◌else◌}
+use Rattle.std.proofs.Common.{◌≡◌, ℕ, List, [], ◌∷◌, ◌++◌, refl, ap, sym, ◌∙◌, Option, Some, None, IsSome, Bool, true, false, if◌then◌else◌}
 use Rattle.std.specs.Option.{option_and_then, is_some}
 use Rattle.std.specs.Prelude.{map, remove, slice_set, unwrap_or}
 use Rattle.rw_nodes.specs.declared.edit.Edit.{Edit}
@@ -10,7 +10,7 @@ use Rattle.rw_nodes.specs.Nodes.{look, numbered, has_obligation}
 use Rattle.rw_goals.specs.declared.library.Item.{Item}
 use Rattle.rw_goals.specs.declared.library.Item.TheVariants as item
 use Rattle.rw_library.specs.Entries.{has_entry, put_entry, without_entry, place_of, entry_name}
-use Rattle.rw_nodes.specs.Table.{table_of, put_row, entry_in, proof_in, entries_of, proofs_of}
+use Rattle.rw_nodes.specs.Table.{table_of, put_row, entry_in, proof_in, entries_of}
 use Rattle.rw_nodes.specs.Edits.{without_param, globals_of, root_of, step_said, step_at, cert_said, cert_at}
 use Rattle.rw_nodes.specs.Parts.{MakesTree, Makes, IsPlaced, applied_to, parts_of, proofs_with, less_entry, with_entry}
 use Rattle.rw_nodes.proofs.Tabled.{put_entries, put_proofs, prove_entries, prove_proofs, without_entries, without_proofs, without_none}

@@ -7,7 +7,7 @@ use Rattle.rw_sequents.specs.declared.line.Cert.{Cert}
 use Rattle.rw_nodes.specs.declared.edit.Edit.{Edit}
 use Rattle.rw_nodes.specs.declared.node.Node.{Node, Node-F, out-Node, roll-Node, out-roll-Node, roll-out-Node, map-Node, ind-Node}
 use Rattle.rw_nodes.specs.declared.parts.Parts.{Parts}
-use Rattle.rw_nodes.specs.Nodes.{numbered, Layer, layer, seen, step_seen, step_in, cert_seen, cert_in, AreShaped, IsShaped}
+use Rattle.rw_nodes.specs.Nodes.{numbered, layer, seen, step_seen, cert_seen, AreShaped, IsShaped}
 use Rattle.rw_nodes.specs.Edits.{kids_in, obligations_in}
 use Rattle.rw_nodes.specs.Parts.{Makes}
 use Rattle.rw_nodes.proofs.Kids.{down, kid_each}

@@ -1,7 +1,6 @@
 -- The entries and the certificates of a table, apart.
-use Rattle.std.proofs.Common.{◌≡◌, ℕ, Bool, true, false, if◌then◌else◌, List, [], ◌∷◌, ◌++◌, map, remove, Option, Some, None, refl, ap, sym, ◌∙◌}
+use Rattle.std.proofs.Common.{◌≡◌, ℕ, Bool, true, false, if◌then◌else◌, List, [], ◌∷◌, map, remove, Some, refl, ap, sym, ◌∙◌}
 use Rattle.std.specs.Prelude.{slice_set}
-use Rattle.std.specs.List.{list_any}
 use Rattle.rw_sequents.specs.declared.line.Cert.{Cert}
 use Rattle.rw_goals.specs.declared.library.Item.{Item}
 use Rattle.rw_library.specs.Entries.{entry_name, is_entry, has_entry, place_of, put_entry, without_entry}

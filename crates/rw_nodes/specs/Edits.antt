@@ -1,5 +1,5 @@
 -- What a list of edits makes, read back from its newest edit, which stands first in the list.
-use Rattle.std.specs.Prelude.{ℕ, Bool, true, ◌&&◌, if◌then◌else◌, nat_eq, nat_le, nat_lt, List, [], ◌∷◌, ◌++◌, Option, Some, None, unwrap_or, bytes_eq}
+use Rattle.std.specs.Prelude.{ℕ, suc, Bool, true, ◌&&◌, if◌then◌else◌, nat_eq, nat_le, nat_lt, List, [], ◌∷◌, ◌++◌, Option, Some, None, unwrap_or, bytes_eq}
 use Rattle.std.specs.List.{list_any}
 use Rattle.rw_terms.specs.declared.scope.Entry.{Entry}
 use Rattle.rw_terms.specs.declared.scope.Kind.TheVariants as kind
@@ -8,6 +8,8 @@ use Rattle.rw_programs.specs.declared.prog.Spec.{Spec}
 use Rattle.rw_sequents.specs.declared.line.Cert.{Cert}
 use Rattle.rw_laws.specs.Counts.{counts as basic_counts}
 use Rattle.rw_loops.specs.Counts.{kids_of as loop_kids, obligations_of as loop_obligations}
+use Rattle.rw_nodes.specs.declared.edit.TreeName.TheVariants as tree
+use Rattle.rw_nodes.specs.declared.edit.Place.{Place}
 use Rattle.rw_nodes.specs.declared.edit.Edit.{Edit}
 use Rattle.rw_nodes.specs.declared.edit.Edit.TheVariants as edit
 use Rattle.rw_nodes.specs.declared.edit.Step.{Step}
@@ -27,6 +29,15 @@ is_param params x = list_any (λ p. bytes_eq p.name x) params
 abbrev pub without_param : List Param → List ℕ → List Param
 without_param [] x = []
 without_param (p ∷ params) x = if bytes_eq p.name x then params else p ∷ without_param params x
+
+-- the place of the declared one of a name, counted from 0, or how many there are
+abbrev pub param_place : List Param → List ℕ → ℕ
+param_place [] x = 0
+param_place (p ∷ params) x = if bytes_eq p.name x then 0 else suc (param_place params x)
+
+-- a place of the main tree
+abbrev pub place_at : List ℕ → Place
+place_at path = record { tree = tree.Main; path = record { kids = path } }
 
 -- how many kids and how many obligations a step has
 abbrev pub counts : Step → ℕ × ℕ

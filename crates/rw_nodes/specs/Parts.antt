@@ -93,6 +93,11 @@ abbrev pub tree_of : List Edit → Node
 tree_of [] = blank
 tree_of (e ∷ l) = tree_after e (tree_of l)
 
--- the project that a list makes so
+-- the project of a list: that tree, and all else read backwards
 abbrev pub parts_of : ℕ → List Edit → Parts
 parts_of limit l = record { globals = globals_of l; root = root_of l; library = record { entries = entries_of l }; proofs = proofs_of l; main = tree_of l; most = limit }
+
+-- the project that a list makes edit by edit from the first, whatever the edits are
+abbrev pub edited : ℕ → List Edit → Parts
+edited limit [] = record { globals = []; root = None; library = record { entries = [] }; proofs = []; main = blank; most = limit }
+edited limit (e ∷ l) = applied_to (edited limit l) e

@@ -1,5 +1,6 @@
 -- The table of definitions and lemmas that a list of edits makes; the newest edit stands first in the list.
-use Rattle.std.specs.Prelude.{ℕ, if◌then◌else◌, List, [], ◌∷◌, map, Option, Some, None}
+use Rattle.std.specs.Prelude.{ℕ, if◌then◌else◌, List, [], ◌∷◌, map, slice_get, Option, Some, None}
+use Rattle.std.specs.Option.{option_and_then}
 use Rattle.rw_sequents.specs.declared.line.Cert.{Cert}
 use Rattle.rw_goals.specs.declared.library.Item.{Item}
 use Rattle.rw_goals.specs.declared.library.Item.TheVariants as item
@@ -53,3 +54,7 @@ entries_of l = map entry_in (table_of l)
 -- for each entry its certificate, or none
 abbrev pub proofs_of : List Edit → List (Option Cert)
 proofs_of l = map proof_in (table_of l)
+
+-- the certificate of the entry at a place, counted from 0
+abbrev pub proof_at : List (Option Cert) → ℕ → Option Cert
+proof_at proofs k = option_and_then (λ o. o) (slice_get proofs k)

@@ -1,7 +1,7 @@
 //! Places and edits.
 
 ghost use Rattle.std.specs.Prelude.{◌≡◌, ◌≤◌, IfOk};
-ghost use Rattle.rw_nodes.specs.Edits.{counts, kids_of, obligations_of};
+ghost use Rattle.rw_nodes.specs.Edits.{counts, kids_of, obligations_of, place_at};
 
 use rw_goals::library::{Definition, Lemma};
 use rw_items::Items;
@@ -19,13 +19,13 @@ pub enum TreeName {
 }
 
 /// Kid numbers, from the root downwards, each from 1.
-#[derive(Drop)]
+#[derive(Debug, Drop)]
 pub struct Path {
     pub kids: Items<u32>,
 }
 
 /// A node of a tree.
-#[derive(Drop)]
+#[derive(Debug, Drop)]
 pub struct Place {
     pub tree: TreeName,
     pub path: Path,
@@ -52,6 +52,17 @@ pub enum Edit {
     Define(Definition),
     Lemma(Lemma),
     Drop(Name),
+}
+
+/// The place of the main tree at the end of a path.
+pub fn place_at(alloc: Global, path: &[u32]) -> Result<Place, AllocError>
+    ensures { IfOk result (λ place. place ≡ place_at path.now) }
+{
+    let kids = Items::from_slice(alloc, path)?;
+    Ok(Place {
+        tree: TreeName::Main,
+        path: Path { kids },
+    })
 }
 
 /// How many kids and how many obligations a step has. It takes no memory.

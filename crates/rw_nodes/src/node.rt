@@ -1,6 +1,6 @@
 //! Nodes, and what an edit does to one by its path.
 
-ghost use Rattle.std.specs.Prelude.{IsTrue, ◌≡◌, ◌≤◌, ◌<◌, IfOk, IsSome, Some, None, map, min, length, replicate};
+ghost use Rattle.std.specs.Prelude.{IsTrue, ◌≡◌, ◌≤◌, ◌<◌, IfOk, IsSome, Some, None, map, min, replicate};
 ghost use Rattle.std.specs.Option.{option_copied};
 ghost use Rattle.rw_nodes.specs.Nodes.{look, renewed, changed, blank, over, has_obligation, with_cert, fresh_node, size, total};
 ghost use Rattle.rw_nodes.specs.Edits.{kids_in, obligations_in};

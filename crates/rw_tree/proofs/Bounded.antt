@@ -18,16 +18,15 @@ use Rattle.rw_library.specs.Entries.{entry_name, is_entry, has_entry, has_lemma,
 use Rattle.rw_nodes.specs.declared.edit.Edit.{Edit}
 use Rattle.rw_nodes.specs.declared.edit.Edit.TheVariants as edit
 use Rattle.rw_nodes.specs.declared.parts.Parts.{Parts}
-use Rattle.rw_nodes.specs.Table.{Row, put_row, prove_row, without_row, table_of, entry_in, proof_in, entries_of, proofs_of}
-use Rattle.rw_nodes.specs.Parts.{Makes, parts_of}
+use Rattle.rw_nodes.specs.Table.{Row, put_row, prove_row, without_row, table_of, entry_in, proof_in, entries_of}
+use Rattle.rw_nodes.specs.Parts.{Makes}
 use Rattle.rw_nodes.proofs.Tabled.{put_entries, prove_entries, without_entries}
-use Rattle.rw_tree.specs.declared.refusal.EditRefusal.{EditRefusal}
-use Rattle.rw_tree.specs.declared.refusal.EditRefusal.TheVariants as refusal
-use Rattle.rw_tree.specs.declared.refusal.Which.TheVariants as which
-use Rattle.rw_tree.specs.Refusals.{or_refusal, unknown, ill_formed, is_ill_formed, unknown_in_cert, cert_limit}
-use Rattle.rw_tree.specs.Entering.{duplicate, entry_limit, heads_with, body_part, define_refusal, lemma_unknown, lemma_part, lemma_refusal, prove_refusal}
+use Rattle.rw_refusals.specs.declared.refusal.EditRefusal.{EditRefusal}
+use Rattle.rw_refusals.specs.declared.refusal.EditRefusal.TheVariants as refusal
+use Rattle.rw_refusals.specs.declared.refusal.Which.TheVariants as which
+use Rattle.rw_refusals.specs.Refusals.{unknown, ill_formed, is_ill_formed, unknown_in_cert}
+use Rattle.rw_refusals.specs.Entering.{duplicate, entry_limit, heads_with, body_part, define_refusal, lemma_unknown, lemma_part, lemma_refusal, prove_refusal}
 use Rattle.rw_tree.specs.Accepting.{IsGood}
-use Rattle.rw_tree.specs.Anew.{proof_at}
 use Rattle.rw_tree.specs.Mirror.{IsBounded}
 use Rattle.rw_tree.proofs.Same.{first_told, parts_same}
 use Rattle.rw_tree.proofs.Sound.{is_short}

@@ -1,8 +1,8 @@
 -- What is said of an answer, from what is said of another.
-use Rattle.std.proofs.Common.{◌≡◌, Option, Some, None, sym, ap, ◌∙◌, Result, Ok, Err}
+use Rattle.std.proofs.Common.{◌≡◌, Option, Some, None, ap, Result, Ok, Err}
+use Rattle.std.specs.Option.{option_or}
 use Rattle.std.specs.Result.{OnOk, OnErr, IfOk, IfErr}
-use Rattle.rw_tree.specs.declared.refusal.EditRefusal.{EditRefusal}
-use Rattle.rw_tree.specs.Refusals.{or_refusal}
+use Rattle.rw_refusals.specs.declared.refusal.EditRefusal.{EditRefusal}
 
 pub on_ok : {A E : Type 0} (r : Result A E) (P Q : Type 0) → (P → Q) → OnOk r P → OnOk r Q
 on_ok (Ok x) P Q f h = f h
@@ -20,8 +20,8 @@ pub on_err : {A E : Type 0} (r : Result A E) (P : E → Type 0) (Q : Type 0) →
 on_err (Ok x) P Q f h = tt
 on_err (Err e) P Q f h = f e h
 
-pub late_told : (one two : Option EditRefusal) → one ≡ None → or_refusal one two ≡ two
-late_told one two none = ap (λ o. or_refusal o two) none
+pub late_told : (one two : Option EditRefusal) → one ≡ None → option_or one two ≡ two
+late_told one two none = ap (λ o. option_or o two) none
 
-pub early_told : (one two : Option EditRefusal) (r : EditRefusal) → one ≡ Some r → or_refusal one two ≡ Some r
-early_told one two r is = ap (λ o. or_refusal o two) is
+pub early_told : (one two : Option EditRefusal) (r : EditRefusal) → one ≡ Some r → option_or one two ≡ Some r
+early_told one two r is = ap (λ o. option_or o two) is

@@ -1,8 +1,7 @@
 -- A step that passes no limit has few kids.
-use Rattle.std.proofs.Common.{◌≡◌, ℕ, ◌≤◌, Bool, true, false, not, if◌then◌else◌, nat_lt, length, List, [], ◌∷◌, Option, Some, None, refl, arith, inl, inr}
+use Rattle.std.proofs.Common.{◌≡◌, ℕ, ◌≤◌, Bool, true, false, not, if◌then◌else◌, nat_lt, length, Some, None, arith, inl, inr}
 use Rattle.std.proofs.lemmas.Bool.Decides.{leb_tells}
 use Rattle.rw_faults.specs.Limits.{is_light, is_shallow}
-use Rattle.rw_terms.specs.declared.term.Formula.{Formula}
 use Rattle.rw_laws.specs.declared.step.BasicStep.{BasicStep}
 use Rattle.rw_laws.specs.declared.step.BasicStep.TheVariants as basic
 use Rattle.rw_laws.specs.Counts.{counts}
@@ -12,10 +11,9 @@ use Rattle.rw_loops.specs.Counts.{guards_of, kids_of as loop_kids}
 use Rattle.rw_nodes.specs.declared.edit.Step.{Step}
 use Rattle.rw_nodes.specs.declared.edit.Step.TheVariants as step
 use Rattle.rw_nodes.specs.Edits.{kids_of}
-use Rattle.rw_tree.specs.declared.refusal.EditRefusal.{EditRefusal}
-use Rattle.rw_tree.specs.declared.refusal.EditRefusal.TheVariants as refusal
-use Rattle.rw_tree.specs.declared.refusal.Which.TheVariants as which
-use Rattle.rw_tree.specs.Refusals.{is_light_term, is_shallow_term, loop_passes, text_limit}
+use Rattle.rw_refusals.specs.declared.refusal.EditRefusal.TheVariants as refusal
+use Rattle.rw_refusals.specs.declared.refusal.Which.TheVariants as which
+use Rattle.rw_refusals.specs.Refusals.{is_light_term, is_shallow_term, loop_passes, text_limit}
 
 few_basic : (s : BasicStep) → (counts s).kids ≤ 32
 few_basic basic.Skip = omega arith

@@ -2,15 +2,8 @@ pub mod Clauses
 pub mod Same
 pub mod Sound
 pub mod Bounded
-pub mod EnteringLemmas
 pub mod UserLemmas
-pub mod RoundLemmas
 pub mod TableLemmas
 pub mod Restored
 pub mod Sizes
-pub mod Counted
-pub mod Roots
-pub mod Sites
-pub mod Weighing
-pub mod Marked
 pub mod Guards

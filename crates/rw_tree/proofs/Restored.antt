@@ -1,5 +1,5 @@
 -- A step that is refused puts all back.
-use Rattle.std.proofs.Common.{◌≡◌, ℕ, List, ap, ◌∙◌, sym, Option, Some, IsSome}
+use Rattle.std.proofs.Common.{◌≡◌, ℕ, List, ap, ◌∙◌, Some, IsSome}
 use Rattle.std.specs.Option.{option_map, is_some}
 use Rattle.rw_nodes.specs.declared.node.Node.{Node}
 use Rattle.rw_nodes.specs.declared.parts.Parts.{Parts}

@@ -1,11 +1,10 @@
 -- The tests by the parts are those by the list that makes them.
 use Rattle.std.proofs.Common.{◌≡◌, ℕ, Bool, true, false, ◌&&◌, if◌then◌else◌, List, [], ◌∷◌, map, refl, sym, ap, ◌∙◌, subst, Option, Some, None}
-use Rattle.std.specs.Option.{is_some}
+use Rattle.std.specs.Option.{is_some, option_or}
 use Rattle.rw_sequents.specs.declared.line.Cert.{Cert}
 use Rattle.rw_nodes.specs.declared.edit.Place.{Place}
 use Rattle.rw_nodes.specs.declared.edit.Edit.{Edit}
 use Rattle.rw_nodes.specs.declared.edit.Edit.TheVariants as edit
-use Rattle.rw_nodes.specs.declared.node.Node.{Node}
 use Rattle.rw_nodes.specs.declared.parts.Parts.{Parts}
 use Rattle.rw_programs.specs.declared.prog.Param.{Param}
 use Rattle.rw_goals.specs.declared.library.Item.{Item}
@@ -14,17 +13,17 @@ use Rattle.rw_library.specs.Entries.{has_entry, heads_of}
 use Rattle.rw_nodes.specs.Table.{table_of, entry_in, proof_in, entries_of, proofs_of}
 use Rattle.rw_nodes.specs.Edits.{globals_of, root_of, without_param, is_node, has_obligation_of}
 use Rattle.rw_nodes.specs.Nodes.{look, has_obligation}
-use Rattle.rw_nodes.specs.Parts.{Makes, IsPlaced, applied_to, tree_of, parts_of, less_entry}
+use Rattle.rw_nodes.specs.Parts.{Makes, IsPlaced, applied_to, tree_of, parts_of, less_entry, edited}
 use Rattle.rw_nodes.proofs.Tabled.{put_entries, put_proofs, prove_entries, prove_proofs, without_entries, without_proofs, without_none}
 use Rattle.rw_nodes.proofs.Making.{made_by, made_none}
 use Rattle.rw_nodes.proofs.Once.{made_once}
 use Rattle.rw_nodes.proofs.There.{nodes_there, obligations_there}
-use Rattle.rw_tree.specs.declared.refusal.EditRefusal.{EditRefusal}
-use Rattle.rw_tree.specs.declared.refusal.EditRefusal.TheVariants as refusal
-use Rattle.rw_tree.specs.Refusals.{or_refusal, unknown, predicate_in_step, unknown_in_cert, at_place, at_obligation, cert_limit, step_limit, full}
-use Rattle.rw_tree.specs.Entering.{define_refusal, order_refusal, sorts_refusal}
-use Rattle.rw_tree.specs.Accepting.{refusal_of, IsGood, IsProject}
-use Rattle.rw_tree.specs.Mirror.{early_refusal, late_refusal, refusal_in}
+use Rattle.rw_refusals.specs.declared.refusal.EditRefusal.{EditRefusal}
+use Rattle.rw_refusals.specs.Refusals.{unknown, predicate_in_step, unknown_in_cert, at_place, at_obligation, cert_limit, step_limit}
+use Rattle.rw_tree.specs.Accepting.{full, refusal_of, IsGood, IsProject}
+use Rattle.rw_refusals.specs.Entering.{define_refusal, order_refusal}
+use Rattle.rw_tree.specs.Used.{sorts_refusal}
+use Rattle.rw_tree.specs.Mirror.{refusal_in}
 
 -- what an accepted test says
 pub at_told : (b : Bool) (q : Place) (ask : Option EditRefusal) → at_place b q ask ≡ None → (b ≡ true) × (ask ≡ None)
@@ -35,11 +34,11 @@ pub obligation_told : (b : Bool) (k : ℕ) (ask : Option EditRefusal) → at_obl
 obligation_told true k ask e = (refl, e)
 obligation_told false k ask e = absurd (cc)
 
-pub first_told : (one two : Option EditRefusal) → or_refusal one two ≡ None → (one ≡ None) × (two ≡ None)
+pub first_told : (one two : Option EditRefusal) → option_or one two ≡ None → (one ≡ None) × (two ≡ None)
 first_told None two e = (refl, e)
 first_told (Some r) two e = absurd (cc)
 
-pub both_none : (one two : Option EditRefusal) → one ≡ None → two ≡ None → or_refusal one two ≡ None
+pub both_none : (one two : Option EditRefusal) → one ≡ None → two ≡ None → option_or one two ≡ None
 both_none None two a b = b
 both_none (Some r) two a b = absurd (cc)
 
@@ -69,6 +68,11 @@ applied_same most l (edit.ProveLemma x c) = with_table most l (sym (prove_entrie
 applied_same most l (edit.Define d) = with_table most l (sym (put_entries (table_of l) (item.Definition d))) (sym (put_proofs (table_of l) (item.Definition d)))
 applied_same most l (edit.Lemma k) = with_table most l (sym (put_entries (table_of l) (item.Lemma k))) (sym (put_proofs (table_of l) (item.Lemma k)))
 applied_same most l (edit.Drop x) = dropped_same most l x (has_entry x (entries_of l)) refl
+
+-- edit by edit the list makes its project
+pub edited_same : (most : ℕ) (l : List Edit) → edited most l ≡ parts_of most l
+edited_same most [] = refl
+edited_same most (e ∷ l) = ap (λ ps. applied_to ps e) (edited_same most l) ∙ applied_same most l e
 
 module _ (most : ℕ) (l : List Edit) (m : Makes most l (parts_of most l)) where
   there : (q : Place) → is_node l q.path.kids ≡ true → is_some (look (tree_of l) q.path.kids) ≡ true
@@ -101,15 +105,15 @@ made_good most (e ∷ l) good =
 pub parts_same : (most : ℕ) (l : List Edit) (parts : Parts) → IsGood most l → Makes most l parts → parts ≡ parts_of most l
 parts_same most l parts good m = made_once most l parts (parts_of most l) m (made_good most l good)
 
-or_at : (b : Bool) (q : Place) (one two : Option EditRefusal) → or_refusal (at_place b q one) two ≡ at_place b q (or_refusal one two)
+or_at : (b : Bool) (q : Place) (one two : Option EditRefusal) → option_or (at_place b q one) two ≡ at_place b q (option_or one two)
 or_at true q one two = refl
 or_at false q one two = refl
 
-or_or : (one two three : Option EditRefusal) → or_refusal (or_refusal one two) three ≡ or_refusal one (or_refusal two three)
+or_or : (one two three : Option EditRefusal) → option_or (option_or one two) three ≡ option_or one (option_or two three)
 or_or None two three = refl
 or_or (Some r) two three = refl
 
-no_more : (o : Option EditRefusal) → or_refusal o None ≡ o
+no_more : (o : Option EditRefusal) → option_or o None ≡ o
 no_more None = refl
 no_more (Some r) = refl
 
@@ -127,20 +131,20 @@ module _ (most : ℕ) (l : List Edit) (m : Makes most l (parts_of most l)) where
   by_parts (edit.Root w) = refl
   by_parts (edit.Step q s) =
       or_or (unknown (predicate_in_step (heads_of (entries_of l)) s)) _ _
-      ∙ ap (or_refusal (unknown (predicate_in_step (heads_of (entries_of l)) s)))
+      ∙ ap (option_or (unknown (predicate_in_step (heads_of (entries_of l)) s)))
       (or_at (is_some (look (tree_of l) q.path.kids)) q (step_limit q.path.kids s (tree_of (edit.Step q s ∷ l))) (full (parts_of most (edit.Step q s ∷ l)))
-      ∙ ap (λ b. at_place b q (or_refusal (step_limit q.path.kids s (tree_of (edit.Step q s ∷ l))) (full (parts_of most (edit.Step q s ∷ l))))) (here q))
+      ∙ ap (λ b. at_place b q (option_or (step_limit q.path.kids s (tree_of (edit.Step q s ∷ l))) (full (parts_of most (edit.Step q s ∷ l))))) (here q))
   by_parts (edit.Clear q) =
       or_at (is_some (look (tree_of l) q.path.kids)) q None (full (parts_of most (edit.Clear q ∷ l)))
       ∙ ap (λ b. at_place b q (full (parts_of most (edit.Clear q ∷ l)))) (here q)
   by_parts (edit.Prove q k c) =
       no_more _
-      ∙ ap (or_refusal (unknown (unknown_in_cert (entries_of l) c)))
+      ∙ ap (option_or (unknown (unknown_in_cert (entries_of l) c)))
       (ap (λ b. at_place b q (at_obligation (has_obligation (tree_of l) q.path.kids k) k (cert_limit c))) (here q)
       ∙ ap (λ b. at_place (is_node l q.path.kids) q (at_obligation b k (cert_limit c))) (obligations_there l (tree_of l) q.path.kids k m.main)
       ∙ and_asked (is_node l q.path.kids) (has_obligation_of l q.path.kids k) q k (cert_limit c))
   by_parts (edit.ProveLemma x c) = no_more _
-  by_parts (edit.Define d) = ap (λ ps. or_refusal (define_refusal (entries_of l) d) (or_refusal (full ps) (or_refusal (order_refusal (entries_of l) d) (sorts_refusal (parts_of most l) d)))) (applied_same most l (edit.Define d))
+  by_parts (edit.Define d) = ap (λ ps. option_or (define_refusal (entries_of l) d) (option_or (full ps) (option_or (order_refusal (entries_of l) d) (sorts_refusal (parts_of most l) d)))) (applied_same most l (edit.Define d))
   by_parts (edit.Lemma k) = no_more _
   by_parts (edit.Drop x) = no_more _
 

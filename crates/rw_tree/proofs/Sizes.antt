@@ -1,6 +1,5 @@
 -- How many nodes there are with a step.
-use Rattle.std.proofs.Common.{◌≡◌, ℕ, zero, suc, ◌+◌, ◌-◌, ◌≤◌, ◌<◌, List, [], ◌∷◌, length, map, take, sym, ap, ◌∙◌, arith, Some}
-use Rattle.std.specs.List.{slice_get}
+use Rattle.std.proofs.Common.{◌≡◌, ℕ, zero, suc, ◌+◌, ◌-◌, ◌≤◌, ◌<◌, List, [], ◌∷◌, length, map, take, ap, arith, Some}
 use Rattle.rw_nodes.specs.declared.edit.Step.{Step}
 use Rattle.rw_nodes.specs.declared.node.Node.{Node, out-Node}
 use Rattle.rw_nodes.specs.Edits.{kids_of}
@@ -38,12 +37,3 @@ few_taken node k kids is few =
     let same : total (map size kids) ≡ total (map size (out-Node node).kids) = ap (λ ks. total (map size ks)) is in
     let some : total (map size (take k kids)) ≤ total (map size kids) = total_take k kids in
     omega (arith, all, same, some, few)
-
--- a kid has no more nodes than all
-pub total_get : (kids : List Node) (i : ℕ) (kid : Node) → slice_get kids i ≡ Some kid → size kid ≤ total (map size kids)
-total_get [] i kid e = absurd (cc)
-total_get (x ∷ kids) zero kid e = let is : x ≡ kid = cc in let same : size x ≡ size kid = ap size is in omega (arith, same)
-total_get (x ∷ kids) (suc i) kid e = let rest : size kid ≤ total (map size kids) = total_get kids i kid e in omega (arith, rest)
-
-pub kids_fewer : (node : Node) (kids : List Node) → kids ≡ (out-Node node).kids → size node ≡ suc (total (map size kids))
-kids_fewer node kids is = size-out node ∙ ap (λ ks. suc (total (map size ks))) (sym is)

@@ -1,6 +1,6 @@
 -- Good edits make trees of at most 2048 nodes, whose certificates have at most 4096 lines.
-use Rattle.std.proofs.Common.{◌≡◌, ℕ, suc, ◌≤◌, ◌+◌, ◌-◌, Bool, true, false, not, if◌then◌else◌, nat_lt, nat_le, nat_eq, List, [], ◌∷◌, length, map, take, refl, sym, ap, ◌∙◌, subst, arith, Option, Some, None, unwrap_or, inl, inr}
-use Rattle.std.specs.Option.{option_and_then, is_some}
+use Rattle.std.proofs.Common.{◌≡◌, ℕ, suc, ◌≤◌, ◌+◌, ◌-◌, Bool, true, false, not, if◌then◌else◌, nat_lt, nat_le, nat_eq, List, [], ◌∷◌, length, map, take, sym, ap, ◌∙◌, subst, arith, Option, Some, None, unwrap_or, inl, inr}
+use Rattle.std.specs.Option.{option_and_then}
 use Rattle.std.specs.List.{list_all, slice_get}
 use Rattle.std.proofs.lemmas.Bool.Decides.{leb_tells}
 use Rattle.rw_faults.specs.Limits.{is_light, is_shallow}
@@ -14,17 +14,15 @@ use Rattle.rw_nodes.specs.declared.parts.Parts.{Parts}
 use Rattle.rw_library.specs.Entries.{heads_of}
 use Rattle.rw_nodes.specs.Table.{entries_of}
 use Rattle.rw_nodes.specs.Edits.{kids_of, kids_in, obligations_in, cert_at, cert_set, cert_dropped, behind, is_node, has_obligation_of}
-use Rattle.rw_nodes.specs.Nodes.{look, Layer, seen, cert_seen, changed, renewed, fresh_node, with_cert, size, total}
-use Rattle.rw_nodes.specs.Parts.{Makes, MakesTree, IsPlaced, tree_of, parts_of, set_step, set_cert}
+use Rattle.rw_nodes.specs.Nodes.{look, cert_seen, renewed, fresh_node, with_cert, size, total}
+use Rattle.rw_nodes.specs.Parts.{Makes, tree_of, set_step, set_cert}
 use Rattle.rw_nodes.proofs.Making.{found, found_with}
 use Rattle.rw_nodes.proofs.Counts.{size-out, size_changed, size_renewed, size_kid}
 use Rattle.rw_nodes.proofs.Kids.{kid_each}
-use Rattle.rw_tree.specs.declared.refusal.EditRefusal.{EditRefusal}
-use Rattle.rw_tree.specs.declared.refusal.EditRefusal.TheVariants as refusal
-use Rattle.rw_tree.specs.declared.refusal.Which.TheVariants as which
-use Rattle.rw_tree.specs.Refusals.{or_refusal, unknown, predicate_in_step, unknown_in_cert, is_light_term, is_shallow_term, passes, cert_limit, step_limit, tree_limit, text_limit, full}
-use Rattle.rw_tree.specs.Accepting.{refusal_of, IsGood}
-use Rattle.rw_tree.specs.Anew.{certified}
+use Rattle.rw_refusals.specs.declared.refusal.EditRefusal.TheVariants as refusal
+use Rattle.rw_refusals.specs.declared.refusal.Which.TheVariants as which
+use Rattle.rw_refusals.specs.Refusals.{unknown, predicate_in_step, unknown_in_cert, is_light_term, is_shallow_term, passes, cert_limit, step_limit, tree_limit, text_limit}
+use Rattle.rw_tree.specs.Accepting.{IsGood}
 use Rattle.rw_tree.specs.Mirror.{HasFewLines, AreSound}
 use Rattle.rw_tree.proofs.Same.{at_told, obligation_told, first_told, placed, made_good, parts_same}
 

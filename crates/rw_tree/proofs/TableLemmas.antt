@@ -1,15 +1,14 @@
 -- The parts with an entry set, taken away or put back.
-use Rattle.std.proofs.Common.{◌≡◌, ℕ, zero, suc, ◌<◌, Bool, true, false, if◌then◌else◌, List, [], ◌∷◌, ◌++◌, length, remove, refl, sym, ap, ◌∙◌, arith, Option, Some, None, true≢false}
+use Rattle.std.proofs.Common.{◌≡◌, ℕ, zero, suc, ◌<◌, Bool, true, false, if◌then◌else◌, List, [], ◌∷◌, ◌++◌, length, remove, refl, sym, ap, ◌∙◌, arith, Option, None, true≢false}
 use Rattle.std.specs.Prelude.{bytes_eq, slice_set}
 use Rattle.rw_sequents.specs.declared.line.Cert.{Cert}
 use Rattle.rw_goals.specs.declared.library.Item.{Item}
-use Rattle.rw_library.specs.Entries.{entry_name, has_entry, place_of, put_entry}
+use Rattle.rw_library.specs.Entries.{entry_name, has_entry, place_of}
 use Rattle.rw_library.proofs.Places.{place_found, put_there, put_last, removed}
 use Rattle.rw_programs.specs.declared.prog.Param.{Param}
 use Rattle.rw_nodes.specs.declared.parts.Parts.{Parts}
-use Rattle.rw_nodes.specs.Edits.{is_param, without_param}
+use Rattle.rw_nodes.specs.Edits.{is_param, without_param, param_place}
 use Rattle.rw_nodes.specs.Parts.{proofs_with, with_entry, less_entry}
-use Rattle.rw_tree.specs.Mirror.{param_place}
 
 -- the parts with these entries and certificates
 abbrev pub table_parts : Parts → List Item → List (Option Cert) → Parts

@@ -1,9 +1,4 @@
-pub mod Derived
-pub mod Weight
 pub mod Users
-pub mod Refusals
-pub mod Entering
+pub mod Used
 pub mod Accepting
-pub mod Anew
-pub mod Uses
 pub mod Mirror

@@ -1,5 +1,6 @@
 -- What uses an entry of the table, or a global: the first user in table order and then in tree order.
 use Rattle.std.specs.Prelude.{ℕ, ◌+◌, Bool, false, ◌||◌, if◌then◌else◌, List, [], ◌∷◌, ◌++◌, slice_get, Option, Some, None}
+use Rattle.std.specs.Option.{option_or}
 use Rattle.std.specs.List.{list_any}
 use Rattle.rw_terms.specs.Mentions.{formula_mentions}
 use Rattle.rw_faults.specs.Initial.{is_listed}
@@ -7,35 +8,21 @@ use Rattle.rw_programs.specs.declared.prog.Spec.{Spec}
 use Rattle.rw_sequents.specs.declared.line.Cert.{Cert}
 use Rattle.rw_goals.specs.declared.library.Item.{Item}
 use Rattle.rw_goals.specs.declared.library.Item.TheVariants.{Definition, Lemma}
-use Rattle.rw_laws.specs.declared.step.BasicStep.{BasicStep}
 use Rattle.rw_laws.specs.declared.step.BasicStep.TheVariants as basic
 use Rattle.rw_loops.specs.Counts.{guards_of}
 use Rattle.rw_library.specs.Naming.{applies, item_names, cert_names}
 use Rattle.rw_nodes.specs.declared.edit.Step.{Step}
 use Rattle.rw_nodes.specs.declared.edit.Step.TheVariants as step
-use Rattle.rw_nodes.specs.declared.edit.Place.{Place}
-use Rattle.rw_nodes.specs.declared.edit.TreeName.TheVariants as tree
 use Rattle.rw_nodes.specs.declared.node.Node.{Node, Node-F, fold-Node}
 use Rattle.rw_nodes.specs.declared.parts.Parts.{Parts}
-use Rattle.rw_tree.specs.declared.refusal.Spot.{Spot}
-use Rattle.rw_tree.specs.declared.refusal.Spot.TheVariants as spot
-
--- a place of the main tree
-abbrev pub place_at : List ℕ → Place
-place_at path = record { tree = tree.Main; path = record { kids = path } }
+use Rattle.rw_nodes.specs.Edits.{place_at}
+use Rattle.rw_refusals.specs.declared.refusal.Spot.{Spot}
+use Rattle.rw_refusals.specs.declared.refusal.Spot.TheVariants as spot
 
 -- an entry, as what uses another
 abbrev pub spot_of : Item → Spot
 spot_of (Definition d) = spot.Define d.name
 spot_of (Lemma l) = spot.Lemma l.name
-
-abbrev pub or_path : Option (List ℕ) → Option (List ℕ) → Option (List ℕ)
-or_path None later = later
-or_path (Some p) later = Some p
-
-abbrev pub or_spot : Option Spot → Option Spot → Option Spot
-or_spot None later = later
-or_spot (Some s) later = Some s
 
 module _ (x : List ℕ) where
   -- whether a certificate, if there is one, has the name
@@ -77,7 +64,7 @@ module _ (x : List ℕ) where
 
   abbrev pub kids_user : List Users → ℕ → List ℕ → Option (List ℕ)
   kids_user [] i path = None
-  kids_user (f ∷ fs) i path = or_path (f (path ++ (i + 1) ∷ [])) (kids_user fs (i + 1) path)
+  kids_user (f ∷ fs) i path = option_or (f (path ++ (i + 1) ∷ [])) (kids_user fs (i + 1) path)
 
   abbrev pub user_step : Node-F Users → Users
   user_step y path = if set_names y.step || list_any proof_names y.certs then Some path else kids_user y.kids 0 path
@@ -96,7 +83,7 @@ module _ (x : List ℕ) where
 
   -- the first user of the entry of this name
   unfoldable pub user_in : Parts → Option Spot
-  user_in parts = or_spot (entry_user parts.proofs 0 parts.library.entries) (spot_at (tree_user parts.root parts.main))
+  user_in parts = option_or (entry_user parts.proofs 0 parts.library.entries) (spot_at (tree_user parts.root parts.main))
 
   -- whether the root speaks of the global of this name
   abbrev pub root_speaks : Option Spec → Bool

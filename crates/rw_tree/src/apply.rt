@@ -1,32 +1,34 @@
 //! What an edit does to a project.
 
 ghost use Rattle.std.specs.Prelude.{◌≡◌, ◌⊎◌, ◌++◌, ℕ, List, [], ◌∷◌, length, OnOk, OnErr, IfOk, IfErr, IsSome, Some, None, true, false};
+ghost use Rattle.std.specs.Option.{option_or};
 ghost use Rattle.rw_nodes.specs.declared.edit.Edit.{Edit};
 ghost use Rattle.rw_nodes.specs.declared.edit.Edit.TheVariants as edit;
-ghost use Rattle.rw_nodes.specs.Nodes.{look, has_obligation};
+ghost use Rattle.rw_nodes.specs.Nodes.{look};
 ghost use Rattle.rw_goals.specs.declared.library.Item.{Item};
 ghost use Rattle.rw_goals.specs.declared.library.Item.TheVariants as item;
 ghost use Rattle.rw_nodes.specs.declared.parts.Parts.{Parts};
 ghost use Rattle.rw_library.specs.Entries.{entry_name, has_entry};
 ghost use Rattle.rw_nodes.specs.Edits.{is_param, without_param};
 ghost use Rattle.rw_nodes.specs.Parts.{Makes, applied_to, set_step, with_entry, with_proof, less_entry};
-ghost use Rattle.rw_tree.specs.Refusals.{or_refusal, full};
-ghost use Rattle.rw_tree.specs.Accepting.{refusal_of, IsGood, IsProject};
-ghost use Rattle.rw_tree.specs.Entering.{order_refusal, sorts_refusal};
+ghost use Rattle.rw_tree.specs.Accepting.{full, refusal_of, IsGood, IsProject};
+ghost use Rattle.rw_refusals.specs.Entering.{order_refusal};
+ghost use Rattle.rw_tree.specs.Used.{sorts_refusal};
 ghost use Rattle.rw_tree.specs.Mirror.{AreSound, early_refusal, late_refusal};
 
 use crate::early::early_refusal;
-use crate::entering::{order_refusal, sorts_refusal};
-use crate::globals::param_place;
-use crate::refusal::EditRefusal;
+use crate::used::sorts_refusal;
 use crate::weight::within_weight;
 use rw_goals::library::{Definition, Item, Lemma};
 use rw_items::Items;
 use rw_library::entries::{entry_name, has_entry, place_of};
 use rw_nodes::edit::{Edit, Step};
+use rw_nodes::globals::param_place;
 use rw_nodes::node::Node;
 use rw_nodes::parts::Parts;
 use rw_programs::prog::{Param, Spec};
+use rw_refusals::entering::order_refusal;
+use rw_refusals::refusal::EditRefusal;
 use rw_sequents::line::Cert;
 use rw_terms::name::Name;
 use std::alloc::{AllocError, Global};
@@ -96,7 +98,7 @@ fn later_refusal(
     definition: &Definition,
 ) -> Result<Option<EditRefusal>, AllocError>
     requires { AreSound parts.now.main }
-    ensures { IfOk result (λ refusal. refusal ≡ or_refusal (order_refusal parts.now.library.entries definition.now) (sorts_refusal parts.now definition.now)) }
+    ensures { IfOk result (λ refusal. refusal ≡ option_or (order_refusal parts.now.library.entries definition.now) (sorts_refusal parts.now definition.now)) }
 {
     match order_refusal(alloc, parts.library.entries.as_slice(), definition)? {
         Some(refusal) => Ok(Some(refusal)),
@@ -128,8 +130,8 @@ fn set_again(
     refusal: Option<EditRefusal>,
 ) -> Result<(), EditRefusal>
     requires { has_entry (entry_name entry) parts.old.library.entries ≡ true }
-    ensures ok { OnOk result ((or_refusal (full (with_entry parts.old entry)) refusal ≡ None) × (parts.new ≡ with_entry parts.old entry)) }
-    ensures err { IfErr result (λ e. (parts.new ≡ parts.old) × ((e ≡ EditRefusal.Memory) ⊎ (or_refusal (full (with_entry parts.old entry)) refusal ≡ Some e))) }
+    ensures ok { OnOk result ((option_or (full (with_entry parts.old entry)) refusal ≡ None) × (parts.new ≡ with_entry parts.old entry)) }
+    ensures err { IfErr result (λ e. (parts.new ≡ parts.old) × ((e ≡ EditRefusal.Memory) ⊎ (option_or (full (with_entry parts.old entry)) refusal ≡ Some e))) }
 {
     let name = entry_name(&entry);
     let place = place_of(parts.library.entries.as_slice(), &name);
@@ -151,8 +153,8 @@ fn set_new(
     refusal: Option<EditRefusal>,
 ) -> Result<(), EditRefusal>
     requires { has_entry (entry_name entry) parts.old.library.entries ≡ false }
-    ensures ok { OnOk result ((or_refusal (full (with_entry parts.old entry)) refusal ≡ None) × (parts.new ≡ with_entry parts.old entry)) }
-    ensures err { IfErr result (λ e. (parts.new ≡ parts.old) × ((e ≡ EditRefusal.Memory) ⊎ (or_refusal (full (with_entry parts.old entry)) refusal ≡ Some e))) }
+    ensures ok { OnOk result ((option_or (full (with_entry parts.old entry)) refusal ≡ None) × (parts.new ≡ with_entry parts.old entry)) }
+    ensures err { IfErr result (λ e. (parts.new ≡ parts.old) × ((e ≡ EditRefusal.Memory) ⊎ (option_or (full (with_entry parts.old entry)) refusal ≡ Some e))) }
 {
     add_entry(parts, entry)?;
     match settled(alloc, parts, refusal) {
@@ -180,8 +182,8 @@ fn remove_last<T: Drop>(items: &mut Items<T>)
 
 // The refusal by the weight, or else the other one.
 fn settled(alloc: Global, parts: &Parts, refusal: Option<EditRefusal>) -> Result<(), EditRefusal>
-    ensures ok { OnOk result (or_refusal (full parts.now) refusal ≡ None) }
-    ensures err { IfErr result (λ e. (e ≡ EditRefusal.Memory) ⊎ (or_refusal (full parts.now) refusal ≡ Some e)) }
+    ensures ok { OnOk result (option_or (full parts.now) refusal ≡ None) }
+    ensures err { IfErr result (λ e. (e ≡ EditRefusal.Memory) ⊎ (option_or (full parts.now) refusal ≡ Some e)) }
 {
     match within_weight(alloc, parts) {
         Ok(()) => match refusal {

@@ -1,18 +1,9 @@
-//! Projects: the tests of edits, applying them, and checking a project anew.
+//! Projects: what is in use, which test refuses an edit, and applying one.
 #![tactic(auto)]
 
-pub mod anew;
 pub mod apply;
-pub mod certificate;
-pub mod derived;
 pub mod early;
-pub mod entering;
-pub mod globals;
-pub mod limits;
-pub mod refusal;
-pub mod root;
-pub mod status;
-pub mod unknown;
+pub mod laws;
+pub mod used;
 pub mod users;
-pub mod uses;
 pub mod weight;

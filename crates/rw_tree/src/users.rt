@@ -4,9 +4,8 @@ ghost use Rattle.std.specs.Prelude.{◌≡◌, ◌≤◌, ◌||◌, ℕ, length,
 ghost use Rattle.std.specs.List.{list_any};
 ghost use Rattle.rw_nodes.specs.declared.node.Node.{Node, out-Node};
 ghost use Rattle.rw_tree.specs.Mirror.{AreSound};
-ghost use Rattle.rw_tree.specs.Users.{place_at, spot_of, proof_names, beside_names, entry_user, root_names, step_names, set_names, kids_user, node_user, tree_user, spot_at, user_in, root_speaks};
+ghost use Rattle.rw_tree.specs.Users.{spot_of, proof_names, beside_names, entry_user, root_names, step_names, set_names, kids_user, node_user, tree_user, spot_at, user_in, root_speaks};
 
-use crate::refusal::Spot;
 use rw_faults::initial::is_listed;
 use rw_goals::library::Item;
 use rw_items::{Items, at};
@@ -17,21 +16,11 @@ use rw_nodes::edit::{Path, Place, Step, TreeName};
 use rw_nodes::node::Node;
 use rw_nodes::parts::Parts;
 use rw_programs::prog::Spec;
+use rw_refusals::refusal::Spot;
 use rw_sequents::line::Cert;
 use rw_terms::mention::free_in;
 use rw_terms::name::Name;
 use std::alloc::{AllocError, Global};
-
-/// The place of the main tree at the end of a path.
-pub fn place_at(alloc: Global, path: &[u32]) -> Result<Place, AllocError>
-    ensures { IfOk result (λ place. place ≡ place_at path.now) }
-{
-    let kids = Items::from_slice(alloc, path)?;
-    Ok(Place {
-        tree: TreeName::Main,
-        path: Path { kids },
-    })
-}
 
 /// The first user of the entry of this name, in table order and then in tree order.
 #[tactic(auto, unfolding(crate::specs::Users::user_in))]

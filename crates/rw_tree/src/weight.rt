@@ -1,27 +1,15 @@
-//! The weight of a project.
+//! The test of the weight of a project.
 
-ghost use Rattle.std.specs.Prelude.{◌≡◌, ◌⊎◌, ℕ, List, IfOk, IfErr, OnOk, map, min, option_copied, None, Some};
-ghost use Rattle.rw_nodes.specs.Nodes.{total};
-ghost use Rattle.rw_tree.specs.Derived.{sites, kid_sites};
-ghost use Rattle.rw_tree.specs.Weight.{formula_parts, sequent_parts, spec_parts, given_parts, site_parts, parts_weight};
-ghost use Rattle.rw_tree.specs.Refusals.{full};
+ghost use Rattle.std.specs.Prelude.{◌≡◌, ◌⊎◌, IfErr, OnOk, None, Some};
+ghost use Rattle.rw_tree.specs.Accepting.{full};
 
-use crate::derived::{derive, root_given};
-use crate::refusal::{EditRefusal, TreeError};
-use rw_items::at;
-use rw_library::entries::heads_of;
-use rw_nodes::node::Node;
 use rw_nodes::parts::Parts;
-use rw_programs::applied::Child;
-use rw_programs::prog::Spec;
-use rw_terms::measure::weight;
-use rw_terms::scope::Head;
-use rw_terms::sequent::Sequent;
-use rw_terms::term::Formula;
+use rw_refusals::refusal::EditRefusal;
+use rw_sites::weight::parts_weight;
 use std::alloc::Global;
 
 /// Refuses a project that weighs more than it may.
-#[tactic(auto, unfolding(crate::specs::Refusals::full))]
+#[tactic(auto, unfolding(crate::specs::Accepting::full))]
 pub fn within_weight(alloc: Global, parts: &Parts) -> Result<(), EditRefusal>
     ensures ok { OnOk result (full parts.now ≡ None) }
     ensures err { IfErr result (λ e. (e ≡ EditRefusal.Memory) ⊎ (full parts.now ≡ Some e)) }
@@ -35,99 +23,4 @@ pub fn within_weight(alloc: Global, parts: &Parts) -> Result<(), EditRefusal>
         }
         Err(_) => Err(EditRefusal::Memory),
     }
-}
-
-// The weight of the project, as far as a `u64` tells.
-fn parts_weight(alloc: Global, parts: &Parts) -> Result<u64, TreeError>
-    ensures { IfOk result (λ w. w ≡ min (parts_weight parts.now) u64.MAX) }
-{
-    let heads = heads_of(alloc, parts.library.entries.as_slice())?;
-    let given = root_given(alloc, parts)?;
-    let weight = node_weight(alloc, heads.as_slice(), &parts.main, given.as_ref())?;
-    Ok(weight)
-}
-
-// The weight of a node and of all below, by what it is given.
-#[cycle(weights)]
-fn node_weight(
-    alloc: Global,
-    heads: &[Head],
-    node: &Node,
-    given: Option<&Child>,
-) -> Result<u64, TreeError>
-    ensures { IfOk result (λ w. (path : List ℕ) → w ≡ min (total (map (site_parts heads.now) (sites heads.now node.now (option_copied given.entry) path))) u64.MAX) }
-{
-    let derived = derive(alloc, heads, given, &node.step)?;
-    let own = given_weight(given);
-    let owed = sequents_weight(derived.obligations.as_slice());
-    let children = derived.children.as_slice();
-    let below = kids_weight(alloc, heads, node.kids.as_slice(), children)?;
-    Ok(own.saturating_add(owed).saturating_add(below))
-}
-
-#[cycle(weights)]
-fn kids_weight(
-    alloc: Global,
-    heads: &[Head],
-    kids: &[Node],
-    children: &[Child],
-) -> Result<u64, TreeError>
-    ensures { IfOk result (λ w. (path : List ℕ) → w ≡ min (total (map (site_parts heads.now) (kid_sites (map (sites heads.now) kids.now) children.now 0 path))) u64.MAX) }
-{
-    let mut sum: u64 = 0;
-    for i in 0..kids.len() {
-        let weight = node_weight(alloc, heads, &kids[i], at(children, i))?;
-        sum = sum.saturating_add(weight);
-    }
-    Ok(sum)
-}
-
-fn given_weight(given: Option<&Child>) -> u64
-    ensures { result ≡ min (given_parts (option_copied given.entry)) u64.MAX }
-{
-    match given {
-        None => 0,
-        Some(child) => spec_weight(&child.spec),
-    }
-}
-
-fn spec_weight(spec: &Spec) -> u64
-    ensures { result ≡ min (spec_parts spec.now) u64.MAX }
-{
-    let formulas = formula_weight(&spec.pre).saturating_add(formula_weight(&spec.post));
-    formulas.saturating_add(spec.frame.len() as u64)
-}
-
-fn sequents_weight(sequents: &[Sequent]) -> u64
-    ensures { result ≡ min (total (map sequent_parts sequents.now)) u64.MAX }
-{
-    let mut sum: u64 = 0;
-    for sequent in sequents {
-        sum = sum.saturating_add(sequent_weight(sequent));
-    }
-    sum
-}
-
-fn sequent_weight(sequent: &Sequent) -> u64
-    ensures { result ≡ min (sequent_parts sequent.now) u64.MAX }
-{
-    formulas_weight(sequent.left.as_slice()).saturating_add(formulas_weight(
-        sequent.right.as_slice(),
-    ))
-}
-
-fn formulas_weight(formulas: &[Formula]) -> u64
-    ensures { result ≡ min (total (map formula_parts formulas.now)) u64.MAX }
-{
-    let mut sum: u64 = 0;
-    for formula in formulas {
-        sum = sum.saturating_add(formula_weight(formula));
-    }
-    sum
-}
-
-fn formula_weight(formula: &Formula) -> u64
-    ensures { result ≡ formula_parts formula.now }
-{
-    u64::from(weight(formula))
 }

@@ -1,7 +1,7 @@
-use Rattle.std.proofs.Common.{◌≡◌, sym, ap, ◌∙◌, subst, inl, inr, None, ◌∷◌}
-use Rattle.rw_nodes.specs.Parts.{Makes, applied_to}
+use Rattle.std.proofs.Common.{◌≡◌, sym, ◌∙◌, subst, inl, inr, None, ◌∷◌}
+use Rattle.rw_nodes.specs.Parts.{Makes}
 use Rattle.rw_tree.specs.Accepting.{IsProject}
-use Rattle.rw_tree.specs.Mirror.{early_refusal, late_refusal}
+use Rattle.rw_tree.specs.Mirror.{early_refusal}
 use Rattle.rw_tree.proofs.Clauses.{on_ok, if_err, on_err, late_told, early_told}
 use Rattle.rw_tree.proofs.Same.{both_none, refusal_same, made_applied, is_project}
 use Rattle.rw_tree.proofs.Sound.{sound_made}

@@ -1,6 +1,6 @@
 use Rattle.std.proofs.Common.{◌≡◌, ◌∙◌, ap, subst}
 use Rattle.std.specs.Prelude.{IfOk}
-use Rattle.rw_tree.specs.Refusals.{root_refusal}
+use Rattle.rw_refusals.specs.Refusals.{root_refusal}
 use Rattle.rw_library.specs.Entries.{heads_of}
 use Rattle.rw_tree.proofs.early.refusal_of_root.Goals as goal
 

@@ -1,8 +1,8 @@
-use Rattle.std.proofs.Common.{rules, ◌≡◌, ◌≤◌, ◌∙◌, refl, sym, ap, subst, length}
+use Rattle.std.proofs.Common.{rules, ◌≤◌, ◌∙◌, refl, sym, ap, subst, length}
 use Rattle.std.specs.List.{slice_get}
 use Rattle.rw_nodes.proofs.Kids.{item_at}
 use Rattle.rw_tree.proofs.Clauses.{if_ok}
-use Rattle.rw_tree.proofs.Sizes.{total_get, kids_fewer}
+use Rattle.rw_nodes.proofs.Counts.{total_get, kids_fewer}
 use Rattle.rw_tree.proofs.Sound.{kid_sound, few_kids}
 use Rattle.rw_tree.proofs.UserLemmas.{user_below}
 use Rattle.rw_tree.proofs.users.+users.Goals as goal

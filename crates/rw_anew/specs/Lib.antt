@@ -1,0 +1,4 @@
+pub mod Anew
+pub mod Uses
+pub mod Marks
+pub mod Cost

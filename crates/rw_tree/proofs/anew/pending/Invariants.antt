@@ -1,6 +1,0 @@
-use Rattle.std.proofs.Common.{◌≡◌, ◌+◌, drop}
-use Rattle.rw_tree.specs.Anew.{pending_from}
-use Rattle.rw_tree.proofs.anew.pending.Given as goal
-
-abbrev pub invariant-loop-need : goal.invariant-loop-need
-invariant-loop-need l = record { number : l.number ≡ l.need-index + 1; rest : pending_from l.number (drop l.need-index l.needs) ≡ pending_from 1 l.needs }

@@ -1,7 +1,0 @@
-use Rattle.std.proofs.Common.{◌≡◌, drop, map}
-use Rattle.rw_faults.specs.Faults.{first_of_names}
-use Rattle.rw_tree.specs.Refusals.{unknown_in_line}
-use Rattle.rw_tree.proofs.unknown.unknown_in_lines.Given as goal
-
-abbrev pub invariant-loop-line : goal.invariant-loop-line
-invariant-loop-line l = first_of_names (map (unknown_in_line l.heads l.entries) (drop l.line-index l.lines)) ≡ first_of_names (map (unknown_in_line l.heads l.entries) l.lines)

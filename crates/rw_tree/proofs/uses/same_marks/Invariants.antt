@@ -1,6 +1,0 @@
-use Rattle.std.proofs.Common.{◌≡◌, drop}
-use Rattle.rw_tree.specs.Mirror.{same_marks}
-use Rattle.rw_tree.proofs.uses.same_marks.Given as goal
-
-abbrev pub invariant-loop-i : goal.invariant-loop-i
-invariant-loop-i l = same_marks (drop l.i l.one) (drop l.i l.other) ≡ same_marks l.one l.other
