@@ -1,7 +1,7 @@
 -- Trees that stand for a value behind binders that are named by their numbers.
-use Rattle.std.proofs.Common.{◌≡◌, ℕ, zero, suc, ◌-◌, ◌≤◌, ◌<◌, Bool, true, false, cond, List, [], ◌∷◌, ◌++◌, Some, None, IsTrue, refl, sym, ap, ◌∙◌, arith, append_assoc, true≢false}
-use Rattle.std.specs.Prelude.{eqb, option_map, not}
-use Rattle.std.proofs.lemmas.Bool.Decides.{nat_tests}
+use Rattle.std.proofs.Common.{◌≡◌, ℕ, zero, suc, ◌-◌, ◌≤◌, ◌<◌, Bool, true, false, cond, List, [], ◌∷◌, ◌++◌, Some, None, IsTrue, refl, ap, ◌∙◌, arith, append_assoc}
+use Rattle.std.specs.Prelude.{eqb, option_map}
+use Rattle.std.proofs.lemmas.Bool.{eq-eqb, ne_eqb}
 use Rattle.rw_terms.specs.Names.{is_name}
 use Rattle.rw_terms.specs.declared.term.Term.{Term}
 use Rattle.rw_terms.specs.declared.term.Term.TheOpen.{Term-F}
@@ -17,7 +17,6 @@ use Rattle.rw_syntax.specs.declared.frame.Head.TheVariants as heads
 use Rattle.rw_syntax.specs.Grammar.{Tree, binary, group, Trees, more, level, level_of, left_of, right_of, head_level, shut, fits, find, is_upper, joined, as_term, IsFormed, AreFormed, part, values}
 use Rattle.rw_syntax.proofs.Choices.{fits_to, shut_term, shut_formula}
 use Rattle.rw_printer.specs.Trees.{wrap, call_onto}
-use Rattle.rw_printer.specs.Readable.{both}
 use Rattle.rw_printer.proofs.Plain.{IsPlain, ArePlain}
 use Rattle.rw_terms.specs.declared.term.Formula.{Formula}
 
@@ -66,17 +65,11 @@ numbered_only x (suc d) = ap (option_map suc) (numbered_only x d)
 -- the binder with k between has the number d - k
 pub found : (k d : ℕ) → k < d → find (binders.Numbered (d - k)) (places d) ≡ Some k
 found k zero h = absurd (omega arith)
-found zero (suc d) h = ap (λ b. cond b (Some 0) (option_map suc (find (binders.Numbered (suc d - 0)) (places d)))) (same_number d)
-  where
-    same_number : (d : ℕ) → eqb (suc d - 0) (suc d) ≡ true
-    same_number d = grind (arith, nat_tests)
+found zero (suc d) h = ap (λ b. cond b (Some 0) (option_map suc (find (binders.Numbered (suc d - 0)) (places d)))) (eq-eqb (suc d - 0) (suc d) (omega arith))
 found (suc k) (suc d) h =
     let z : suc d - suc k ≡ d - k = omega arith in
-    let n : eqb (suc d - suc k) (suc d) ≡ false = other_number d k (omega arith) in
+    let n : eqb (suc d - suc k) (suc d) ≡ false = ne_eqb (suc d - suc k) (suc d) (λ e. omega (arith, e)) in
     ap (λ b. cond b (Some 0) (option_map suc (find (binders.Numbered (suc d - suc k)) (places d)))) n ∙ ap (λ m. option_map suc (find (binders.Numbered m) (places d))) z ∙ ap (option_map suc) (found k d (omega arith))
-  where
-    other_number : (d k : ℕ) → k < d → eqb (suc d - suc k) (suc d) ≡ false
-    other_number d k h = grind (arith, nat_tests)
 
 -- both operands fit
 pub infix_shown : (d : ℕ) (op : Infix) (l r : Tree) (a b v : Part) → joined op a b ≡ v → Kind v (level_of op) → Fit (left_of op) d l a → Fit (right_of op) d r b → Shown d (binary op l r) v
@@ -86,14 +79,6 @@ infix_shown d op l r a b v e k x y = record {
   plain = (x.plain, y.plain);
   kind = k;
 }
-
-pub split_both : (a b : Bool) → both a b ≡ true → (a ≡ true) × (b ≡ true)
-split_both true b e = (refl, e)
-split_both false b e = absurd (true≢false (sym e))
-
-pub not_true : (b : Bool) → not b ≡ true → b ≡ false
-not_true true e = absurd (true≢false (sym e))
-not_true false e = refl
 
 -- the trees of a list of terms fit as these
 abbrev pub AreFit : ℕ → List Tree → List Term → Type 0

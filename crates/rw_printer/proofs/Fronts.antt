@@ -4,16 +4,17 @@ use Rattle.std.specs.Prelude.{eqb, leb, nat_eq, ◌&&◌, ◌||◌, codes, decim
 use Rattle.std.specs.List.{list_all, prefix_len}
 use Rattle.std.proofs.Math.Seq.{take-append_seam, drop-append_seam}
 use Rattle.std.proofs.lemmas.Bool.Decides.{nat_tests}
+use Rattle.std.proofs.lemmas.Bool.{and_parts, or_parts, not-true}
 use Rattle.rw_terms.specs.Names.{is_letter, is_digit, goes_on, is_word, is_name, ends_with_0}
 use Rattle.rw_syntax.specs.declared.token.Infix.{Infix}
 use Rattle.rw_syntax.specs.declared.token.Infix.TheVariants as infixes
 use Rattle.rw_syntax.specs.declared.token.Token.TheVariants as classes
-use Rattle.rw_reader.specs.Tokens.{text, number, binder, skip, token_at, front_token, with_next, text_of, word_of, digits_of, binder_of, from_1, number_of, is_among, doubles, singles, symbol_of}
-use Rattle.rw_reader.specs.Classes.{class_of, text_class, mark_texts}
+use Rattle.rw_tokens.specs.Tokens.{text, number, binder, skip, token_at, front_token, with_next, text_of, word_of, digits_of, binder_of, from_1, number_of, is_among, doubles, singles, symbol_of}
+use Rattle.rw_tokens.specs.Classes.{class_of, text_class, mark_texts}
 use Rattle.rw_printer.specs.Layout.{infix_text}
 use Rattle.rw_printer.proofs.Leading.{Leads, one, to, skip_space}
 use Rattle.rw_printer.proofs.Numerals.{decimal_digits, number_is}
-use Rattle.rw_printer.proofs.Marks.{split, word_class, initial_class}
+use Rattle.rw_printer.proofs.Marks.{word_class, initial_class}
 
 -- nothing, or a byte that ends words and numbers and makes no symbol with a bracket before it
 abbrev pub ends : List ℕ → Bool
@@ -27,36 +28,27 @@ begins c = is_letter c || is_digit c || eqb c 95 || eqb c 45 || eqb c 40
 -- a word ends here
 abbrev pub stops : List ℕ → Bool
 stops [] = true
-stops (c ∷ cs) = cond (goes_on c) false true
+stops (c ∷ cs) = not (goes_on c)
 
 abbrev goes_on_step : ℕ → List ℕ → Bool → ℕ
 goes_on_step c cs b = cond b (1 + prefix_len goes_on cs) 0
 
 pub ends_stops : (r : List ℕ) → ends r ≡ true → stops r ≡ true
 ends_stops [] e = refl
-ends_stops (c ∷ cs) e = ap (λ b. cond b false true) (let h : goes_on c ≡ false = grind (arith, nat_tests, e) in h)
-
-flipped : (b : Bool) → cond b false true ≡ true → b ≡ false
-flipped true e = absurd (cc)
-flipped false e = refl
-
-second_false : (a b c : Bool) → (a || b || c) ≡ false → b ≡ false
-second_false true b c e = absurd (cc)
-second_false false true c e = absurd (cc)
-second_false false false c e = refl
+ends_stops (c ∷ cs) e = ap not (let h : goes_on c ≡ false = grind (arith, nat_tests, e) in h)
 
 no_more : (r : List ℕ) → stops r ≡ true → prefix_len goes_on r ≡ 0
 no_more [] e = refl
-no_more (c ∷ cs) e = ap (goes_on_step c cs) (flipped (goes_on c) e)
+no_more (c ∷ cs) e = ap (goes_on_step c cs) (not-true (goes_on c) e)
 
 no_digits : (r : List ℕ) → stops r ≡ true → prefix_len is_digit r ≡ 0
 no_digits [] e = refl
-no_digits (c ∷ cs) e = ap (λ b. cond b (1 + prefix_len is_digit cs) 0) (second_false (is_letter c) (is_digit c) (eqb c 95) (flipped (goes_on c) e))
+no_digits (c ∷ cs) e = ap (λ b. cond b (1 + prefix_len is_digit cs) 0) (or_parts (is_letter c) (is_digit c) (or_parts (is_letter c || is_digit c) (eqb c 95) (not-true (goes_on c) e)).0).1
 
 prefix_all : (p : ℕ → Bool) (xs r : List ℕ) → list_all p xs ≡ true → prefix_len p r ≡ 0 → prefix_len p (xs ++ r) ≡ length xs
 prefix_all p [] r h e = e
 prefix_all p (x ∷ xs) r h e =
-    let q = split (p x) (list_all p xs) h in
+    let q = and_parts (p x) (list_all p xs) h in
     ap (λ b. cond b (1 + prefix_len p (xs ++ r)) 0) q.0 ∙ (let k = prefix_all p xs r q.1 e in omega arith)
 
 text_is : (w r : List ℕ) (n : ℕ) → n ≡ length w → option_map (with_next (w ++ r)) (text_of n (w ++ r)) ≡ Some (text w, skip r)
@@ -86,7 +78,7 @@ pub name_parts : (w : List ℕ) → is_name w ≡ true → NameParts w
 unfolding is_name
 name_parts [] e = absurd (cc)
 name_parts (b ∷ bs) e =
-    let q = split (is_letter b) (list_all goes_on bs) (split (is_word (b ∷ bs)) (leb (length (b ∷ bs)) 32) (split (is_word (b ∷ bs) && leb (length (b ∷ bs)) 32) _ (split (is_word (b ∷ bs) && leb (length (b ∷ bs)) 32 && not (ends_with_0 (b ∷ bs))) _ e).0).0).0 in
+    let q = and_parts (is_letter b) (list_all goes_on bs) (and_parts (is_word (b ∷ bs)) (leb (length (b ∷ bs)) 32) (and_parts (is_word (b ∷ bs) && leb (length (b ∷ bs)) 32) _ (and_parts (is_word (b ∷ bs) && leb (length (b ∷ bs)) 32 && not (ends_with_0 (b ∷ bs))) _ e).0).0).0 in
     record { first = b; rest = bs; is = refl; letter = q.0; on = q.1 }
 
 pub name_token : (w r : List ℕ) → is_name w ≡ true → stops r ≡ true → token_at (w ++ r) ≡ Some (text w, skip r)
@@ -97,7 +89,7 @@ word_leads w r n e = one (w ++ r) (text w) (classes.Word w) (skip r) (name_token
 
 on_more : (bs : List ℕ) → list_all goes_on bs ≡ true → list_all goes_on (bs ++ 48 ∷ []) ≡ true
 on_more [] h = refl
-on_more (c ∷ cs) h = let q = split (goes_on c) (list_all goes_on cs) h in ap (λ x. x && list_all goes_on (cs ++ 48 ∷ [])) q.0 ∙ on_more cs q.1
+on_more (c ∷ cs) h = let q = and_parts (goes_on c) (list_all goes_on cs) h in ap (λ x. x && list_all goes_on (cs ++ 48 ∷ [])) q.0 ∙ on_more cs q.1
 
 pub initial_leads : (w r : List ℕ) → is_name w ≡ true → stops r ≡ true → Leads ((w ++ codes "0") ++ r) (classes.Initial w ∷ []) (skip r)
 initial_leads w r n e =
@@ -131,7 +123,7 @@ pub number_token : (n : ℕ) (r : List ℕ) → leb n 17014118346046923173168730
 unfolding token_at
 number_token n r h e =
     let s = decimal_digits n (small n h) in
-    let d : is_digit s.first ≡ true = (split (is_digit s.first) (list_all is_digit s.rest) (subst (λ x. list_all is_digit x ≡ true) s.is s.digits)).0 in
+    let d : is_digit s.first ≡ true = (and_parts (is_digit s.first) (list_all is_digit s.rest) (subst (λ x. list_all is_digit x ≡ true) s.is s.digits)).0 in
     let f : front_token (decimal n ++ r) ≡ digits_of (decimal n ++ r) = subst (λ x. front_token (x ++ r) ≡ digits_of (x ++ r)) (sym s.is) (number_front s.first (s.rest ++ r) d) in
     ap (option_map (with_next (decimal n ++ r))) (f ∙ ap (option_map (λ v. (number v, prefix_len is_digit (decimal n ++ r)))) (digits_are n r h e)) ∙ ap (λ x. Some (number n, skip x)) (digits_behind n r h e)
 

@@ -2,8 +2,8 @@
 use Rattle.std.proofs.Common.{◌≡◌, ℕ, suc, ◌+◌, false, cond, List, [], ◌∷◌, ◌++◌, drop, Some, refl, sym, ap, subst, arith}
 use Rattle.std.specs.List.{prefix_len}
 use Rattle.rw_syntax.specs.declared.token.Token.{Token as Class}
-use Rattle.rw_reader.specs.Tokens.{Token, is_blank, skip, token_at, LeadsTo}
-use Rattle.rw_reader.specs.Classes.{class_of, AreClasses}
+use Rattle.rw_tokens.specs.Tokens.{Token, is_blank, skip, token_at, LeadsTo}
+use Rattle.rw_tokens.specs.Classes.{class_of, AreClasses}
 
 pub record Leads (here : List ℕ) (cs : List Class) (there : List ℕ) : Type 0 where
   pub tokens : List Token

@@ -1,8 +1,9 @@
 -- What is laid out leads through the tokens of its tree.
-use Rattle.std.proofs.Common.{◌≡◌, ℕ, suc, ◌+◌, ◌≤◌, Bool, true, false, List, [], ◌∷◌, ◌++◌, refl, sym, ap, ◌∙◌, subst, arith, append_assoc}
-use Rattle.std.specs.Prelude.{leb, nat_eq, ◌&&◌, codes, decimal}
+use Rattle.std.proofs.Common.{◌≡◌, ℕ, suc, ◌+◌, ◌≤◌, true, false, List, [], ◌∷◌, ◌++◌, refl, sym, ap, ◌∙◌, subst, arith, append_assoc}
+use Rattle.std.specs.Prelude.{leb, nat_eq, codes, decimal}
 use Rattle.std.specs.List.{list_all}
 use Rattle.std.proofs.lemmas.Bool.Decides.{nat_tests}
+use Rattle.std.proofs.lemmas.Bool.{and_parts}
 use Rattle.rw_terms.specs.Names.{is_letter, is_digit, is_name}
 use Rattle.rw_terms.specs.declared.term.Sort.{Sort}
 use Rattle.rw_terms.specs.declared.term.Sort.TheVariants as sorts
@@ -15,9 +16,9 @@ use Rattle.rw_syntax.specs.declared.frame.Prefix.TheVariants as prefixes
 use Rattle.rw_syntax.specs.declared.frame.Head.{Head}
 use Rattle.rw_syntax.specs.declared.frame.Head.TheVariants as heads
 use Rattle.rw_syntax.specs.Grammar as grammar
-use Rattle.rw_syntax.specs.Grammar.{Leaf, number, word, initial, place, truth, Tree, leaf, prefix, binary, group, index, call, Trees, none, more, is_known, is_sort, leaf_token, head_token, texts, level, chain, adds, nests, each_nests, each}
-use Rattle.rw_reader.specs.Tokens.{text, is_blank, skip, token_at, front_token, doubles, singles}
-use Rattle.rw_reader.specs.Classes.{class_of, text_class, mark_texts}
+use Rattle.rw_syntax.specs.Grammar.{Leaf, number, word, initial, place, truth, Tree, leaf, prefix, binary, group, index, call, Trees, none, more, is_sort, leaf_token, head_token, texts, level, chain, adds, nests, each_nests, each}
+use Rattle.rw_tokens.specs.Tokens.{text, is_blank, skip, token_at, front_token, doubles, singles}
+use Rattle.rw_tokens.specs.Classes.{class_of, text_class, mark_texts}
 use Rattle.rw_printer.specs.Layout.{infix_text, leaf_text, sort_text, quantifier_text, prefix_text, head_text, laid, laid_each}
 use Rattle.rw_printer.specs.ReadsBack.{StaysWithin}
 use Rattle.rw_printer.proofs.Plain.{PlainLeaf, PlainPrefix, PlainHead, IsPlain, ArePlain, behind}
@@ -50,14 +51,10 @@ digit_begins c h = grind (arith, nat_tests, h)
 letter_begins : (c : ℕ) → is_letter c ≡ true → begins c ≡ true
 letter_begins c h = grind (arith, nat_tests, h)
 
-and_first : (a b : Bool) → (a && b) ≡ true → a ≡ true
-and_first true b e = refl
-and_first false b e = e
-
 pub number_starts : (n : ℕ) → leb n 170141183460469231731687303715884105727 ≡ true → Starts (decimal n)
 number_starts n h =
     let s = decimal_digits n (small n h) in
-    record { first = s.first; rest = s.rest; is = s.is; ok = digit_begins s.first (and_first (is_digit s.first) (list_all is_digit s.rest) (subst (λ x. list_all is_digit x ≡ true) s.is s.digits)) }
+    record { first = s.first; rest = s.rest; is = s.is; ok = digit_begins s.first (and_parts (is_digit s.first) (list_all is_digit s.rest) (subst (λ x. list_all is_digit x ≡ true) s.is s.digits)).0 }
 
 pub name_starts : (w : List ℕ) → is_name w ≡ true → Starts w
 name_starts w n = let p = name_parts w n in record { first = p.first; rest = p.rest; is = p.is; ok = letter_begins p.first p.letter }

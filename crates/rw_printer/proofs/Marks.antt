@@ -4,19 +4,16 @@ use Rattle.std.specs.Prelude.{not, eqb, leb, ◌&&◌, codes, bytes_eq, slice_in
 use Rattle.std.specs.List.{list_all}
 use Rattle.std.proofs.Math.Seq.{take-append_seam}
 use Rattle.std.proofs.lemmas.Slice.Eq.{bytes_eq-Decides}
+use Rattle.std.proofs.lemmas.Bool.{and_parts}
 use Rattle.rw_terms.specs.Names.{is_word, is_name, ends_with_0, is_reserved, reserved}
 use Rattle.rw_syntax.specs.declared.token.Token.TheVariants as classes
-use Rattle.rw_reader.specs.declared.class.Mark.{Mark}
-use Rattle.rw_reader.specs.Tokens.{text}
-use Rattle.rw_reader.specs.Classes.{mark_texts, mark_in, shorter, name_class, class_or, text_class, class_of}
+use Rattle.rw_tokens.specs.declared.class.Mark.{Mark}
+use Rattle.rw_tokens.specs.Tokens.{text}
+use Rattle.rw_tokens.specs.Classes.{mark_texts, mark_in, shorter, name_class, class_or, text_class, class_of}
 
 -- no mark passes a test
 abbrev none_passes : (List ℕ → Bool) → List (List ℕ × Mark) → Bool
 none_passes p ks = list_all (λ k. not (p k.0)) ks
-
-pub split : (a b : Bool) → (a && b) ≡ true → (a ≡ true) × (b ≡ true)
-split true b e = (refl, e)
-split false b e = absurd (cc)
 
 by_test : (p : List ℕ → Bool) (k : List ℕ × Mark) (w : List ℕ) (o : Option Mark) (b : Bool) → bytes_eq w k.0 ≡ b → not (p k.0) ≡ true → p w ≡ true → o ≡ None → cond b (Some k.1) o ≡ None
 by_test p k w o true s q e n =
@@ -27,7 +24,7 @@ by_test p k w o false s q e n = n
 no_mark : (p : List ℕ → Bool) (ks : List (List ℕ × Mark)) (w : List ℕ) → none_passes p ks ≡ true → p w ≡ true → mark_in ks w ≡ None
 no_mark p [] w h e = refl
 no_mark p (k ∷ ks) w h e =
-    let q = split (not (p k.0)) (none_passes p ks) h in
+    let q = and_parts (not (p k.0)) (none_passes p ks) h in
     by_test p k w (mark_in ks w) (bytes_eq w k.0) refl q.0 e (no_mark p ks w q.1 e)
 
 marks_are_no_names : none_passes is_name mark_texts ≡ true

@@ -1,11 +1,12 @@
 -- The digits of a number are read as it.
-use Rattle.std.proofs.Common.{◌≡◌, ℕ, ◌+◌, ◌-◌, ◌*◌, ◌/◌, ◌%◌, ◌^◌, ◌≤◌, ◌<◌, Bool, true, false, cond, List, [], ◌∷◌, ◌++◌, Some, None, refl, sym, ap, ◌∙◌, subst, arith}
-use Rattle.std.specs.Prelude.{leb, eqb, ◌&&◌, decimal}
+use Rattle.std.proofs.Common.{◌≡◌, ℕ, ◌+◌, ◌-◌, ◌*◌, ◌/◌, ◌%◌, ◌^◌, ◌≤◌, ◌<◌, true, false, cond, List, [], ◌∷◌, ◌++◌, Some, None, refl, sym, ap, ◌∙◌, subst, arith}
+use Rattle.std.specs.Prelude.{leb, eqb, decimal}
 use Rattle.std.specs.List.{list_all}
 use Rattle.std.proofs.lemmas.Bool.Decides.{nat_tests}
 use Rattle.std.proofs.lemmas.Fmt.{decimal_by_steps_wide}
+use Rattle.std.proofs.lemmas.Bool.{and_parts, and_from, ne_eqb}
 use Rattle.rw_terms.specs.Names.{is_digit}
-use Rattle.rw_reader.specs.Tokens.{value, leads_with_0, number_of}
+use Rattle.rw_tokens.specs.Tokens.{value, leads_with_0, number_of}
 
 pub record Digits (n : ℕ) (ds : List ℕ) : Type 0 where
   pub first : ℕ
@@ -19,21 +20,11 @@ pub record Digits (n : ℕ) (ds : List ℕ) : Type 0 where
 digit : (n : ℕ) → n < 10 → is_digit (48 + n) ≡ true
 digit n h = grind (arith, nat_tests, h)
 
-no_zero : (n : ℕ) → 1 ≤ n → eqb (48 + n) 48 ≡ false
-no_zero n h = grind (arith, nat_tests, h)
-
-and_true : (a b : Bool) → a ≡ true → b ≡ true → (a && b) ≡ true
-and_true a b e f = ap (λ c. c && b) e ∙ f
-
 all_more : (ds : List ℕ) (d : ℕ) → list_all is_digit ds ≡ true → is_digit d ≡ true → list_all is_digit (ds ++ d ∷ []) ≡ true
-all_more [] d h e = and_true (is_digit d) true e refl
+all_more [] d h e = and_from (is_digit d) true e refl
 all_more (c ∷ cs) d h e =
-    let q = split (is_digit c) (list_all is_digit cs) h in
-    and_true (is_digit c) (list_all is_digit (cs ++ d ∷ [])) q.0 (all_more cs d q.1 e)
-  where
-    split : (a b : Bool) → (a && b) ≡ true → (a ≡ true) × (b ≡ true)
-    split true b e = (refl, e)
-    split false b e = absurd (cc)
+    let q = and_parts (is_digit c) (list_all is_digit cs) h in
+    and_from (is_digit c) (list_all is_digit (cs ++ d ∷ [])) q.0 (all_more cs d q.1 e)
 
 value_more : (n : ℕ) (ds : List ℕ) (d : ℕ) → value n (ds ++ d ∷ []) ≡ value n ds * 10 + (d - 48)
 unfolding value
@@ -46,7 +37,7 @@ leads_more c (b ∷ bs) d e = e
 
 one_digit : (n : ℕ) → n < 10 → Digits n ((48 + n) ∷ [])
 unfolding value
-one_digit n h = record { first = 48 + n; rest = []; is = refl; digits = and_true (is_digit (48 + n)) true (digit n h) refl; valued = omega arith; leads = refl; nonzero = no_zero n }
+one_digit n h = record { first = 48 + n; rest = []; is = refl; digits = and_from (is_digit (48 + n)) true (digit n h) refl; valued = omega arith; leads = refl; nonzero = λ h. ne_eqb (48 + n) 48 (λ e. omega (arith, h, e)) }
 
 one_more : (n : ℕ) (ds : List ℕ) → 10 ≤ n → Digits (n / 10) ds → Digits n (ds ++ ((48 + n % 10) ∷ []))
 one_more n ds h s =

@@ -6,8 +6,8 @@ use Rattle.rw_syntax.specs.declared.frame.Part.{Part}
 use Rattle.rw_syntax.specs.declared.frame.Part.TheVariants as parts
 use Rattle.rw_syntax.specs.Grammar.{Tree, level, fits, nests}
 use Rattle.rw_syntax.proofs.Choices.{fits_to}
-use Rattle.rw_reader.specs.Tokens.{skip}
-use Rattle.rw_reader.specs.Expressions.{TextSpells}
+use Rattle.rw_tokens.specs.Tokens.{skip}
+use Rattle.rw_tokens.specs.Expressions.{TextSpells}
 use Rattle.rw_printer.specs.Trees.{term_tree, formula_tree}
 use Rattle.rw_printer.specs.Layout.{laid, printed_term, printed_formula}
 use Rattle.rw_printer.specs.ReadsBack.{StaysWithin}

@@ -1,5 +1,7 @@
 -- The tree of a readable formula stands for it.
 use Rattle.std.proofs.Common.{◌≡◌, ℕ, suc, ◌≤◌, ◌<◌, Bool, true, false, cond, List, [], ◌∷◌, refl, sym, ap, ◌∙◌, subst, arith, true≢false, map}
+use Rattle.std.specs.Prelude.{◌&&◌}
+use Rattle.std.proofs.lemmas.Bool.{and_parts}
 use Rattle.rw_terms.specs.Names.{is_name}
 use Rattle.rw_terms.specs.declared.term.Sort.{Sort}
 use Rattle.rw_terms.specs.declared.term.Term.{Term}
@@ -9,6 +11,7 @@ use Rattle.rw_terms.specs.declared.term.Formula.{Formula}
 use Rattle.rw_terms.specs.declared.term.Formula.TheOpen.{Formula-F}
 use Rattle.rw_terms.specs.declared.term.Formula.TheViews.{roll-Formula}
 use Rattle.rw_terms.specs.declared.term.Formula.TheFolds.{map-Formula, ind-Formula, fold-roll-Formula}
+use Rattle.rw_terms.specs.AllOf.{all_of}
 use Rattle.rw_syntax.specs.declared.token.Infix.{Infix}
 use Rattle.rw_syntax.specs.declared.token.Infix.TheVariants as infixes
 use Rattle.rw_syntax.specs.declared.token.Quantifier.{Quantifier}
@@ -18,8 +21,8 @@ use Rattle.rw_syntax.specs.declared.frame.Binder.TheVariants as binders
 use Rattle.rw_syntax.specs.declared.frame.Prefix.TheVariants as prefixes
 use Rattle.rw_syntax.specs.Grammar.{none, level, level_of, left_of, right_of, is_upper, is_sort, joined, prefixed, Tree, binary}
 use Rattle.rw_printer.specs.Trees.{wrap, is_quantified, conclusion_level, infix_tree, quantified_tree, term_tree, formula_tree_step, formula_tree}
-use Rattle.rw_printer.specs.Readable.{both, all_of, readable_term, readable_step, readable_formula, named_term, named_terms, named_step, named_formula}
-use Rattle.rw_printer.proofs.Fits.{Shown, Fit, term_fits, formula_fits, infix_shown, split_both, Called, called}
+use Rattle.rw_printer.specs.Readable.{readable_term, readable_step, readable_formula, named_term, named_terms, named_step, named_formula}
+use Rattle.rw_printer.proofs.Fits.{Shown, Fit, term_fits, formula_fits, infix_shown, Called, called}
 use Rattle.rw_printer.proofs.ShownTerms.{prints as term_prints, all_fit}
 use Rattle.rw_syntax.proofs.Choices.{fits_of, fits_to}
 
@@ -33,10 +36,10 @@ abbrev under : Layer → Formula-F Formula
 under = map-Formula ((f : Formula) × Prints f) Formula (λ e. e.0)
 
 -- a relation between two terms
-relates : (d : ℕ) (op : Infix) (s t : Term) (v : Formula) → joined op (parts.Term s) (parts.Term t) ≡ parts.Formula v → level_of op ≡ 5 → left_of op ≡ 6 → right_of op ≡ 6 → both (readable_term s d) (readable_term t d) ≡ true → both (named_term s) (named_term t) ≡ true → Shown d (infix_tree op (term_tree s d) (term_tree t d)) (parts.Formula v)
+relates : (d : ℕ) (op : Infix) (s t : Term) (v : Formula) → joined op (parts.Term s) (parts.Term t) ≡ parts.Formula v → level_of op ≡ 5 → left_of op ≡ 6 → right_of op ≡ 6 → (readable_term s d && readable_term t d) ≡ true → (named_term s && named_term t) ≡ true → Shown d (infix_tree op (term_tree s d) (term_tree t d)) (parts.Formula v)
 relates d op s t v e k l r p n =
-    let q = split_both (readable_term s d) (readable_term t d) p in
-    let m = split_both (named_term s) (named_term t) n in
+    let q = and_parts (readable_term s d) (readable_term t d) p in
+    let m = and_parts (named_term s) (named_term t) n in
     infix_shown d op (wrap (left_of op) (term_tree s d)) (wrap (right_of op) (term_tree t d)) (parts.Term s) (parts.Term t) (parts.Formula v) e (omega arith, omega arith)
     (term_fits (left_of op) d (term_tree s d) s (omega arith) (omega arith) (term_prints s d q.0 m.0))
     (term_fits (right_of op) d (term_tree t d) t (omega arith) (omega arith) (term_prints t d q.1 m.1))
@@ -45,10 +48,10 @@ operand : (wanted d : ℕ) (a : (f : Formula) × Prints f) → wanted ≤ 5 → 
 operand wanted d a high p n = formula_fits wanted d (formula_tree a.0 d) a.0 high (a.1 d p n)
 
 -- a connective between two formulas, of which the right one is wanted at a level
-joins : (d : ℕ) (op : Infix) (least : ℕ) (a b : (f : Formula) × Prints f) (v : Formula) → joined op (parts.Formula a.0) (parts.Formula b.0) ≡ parts.Formula v → 1 ≤ level_of op → level_of op < 6 → left_of op ≤ 5 → right_of op ≤ least → least ≤ 5 → both (readable_formula a.0 d) (readable_formula b.0 d) ≡ true → both (named_formula a.0) (named_formula b.0) ≡ true → Shown d (binary op (wrap (left_of op) (formula_tree a.0 d)) (wrap least (formula_tree b.0 d))) (parts.Formula v)
+joins : (d : ℕ) (op : Infix) (least : ℕ) (a b : (f : Formula) × Prints f) (v : Formula) → joined op (parts.Formula a.0) (parts.Formula b.0) ≡ parts.Formula v → 1 ≤ level_of op → level_of op < 6 → left_of op ≤ 5 → right_of op ≤ least → least ≤ 5 → (readable_formula a.0 d && readable_formula b.0 d) ≡ true → (named_formula a.0 && named_formula b.0) ≡ true → Shown d (binary op (wrap (left_of op) (formula_tree a.0 d)) (wrap least (formula_tree b.0 d))) (parts.Formula v)
 joins d op least a b v e k1 k2 l r1 r2 p n =
-    let q = split_both (readable_formula a.0 d) (readable_formula b.0 d) p in
-    let m = split_both (named_formula a.0) (named_formula b.0) n in
+    let q = and_parts (readable_formula a.0 d) (readable_formula b.0 d) p in
+    let m = and_parts (named_formula a.0) (named_formula b.0) n in
     infix_shown d op (wrap (left_of op) (formula_tree a.0 d)) (wrap least (formula_tree b.0 d)) (parts.Formula a.0) (parts.Formula b.0) (parts.Formula v) e (k1, k2) (operand (left_of op) d a l q.0 m.0) (looser least (right_of op) (operand least d b r2 q.1 m.1) r1 r2)
   where
     looser : (least more : ℕ) → Fit least d (wrap least (formula_tree b.0 d)) (parts.Formula b.0) → more ≤ least → least ≤ 5 → Fit more d (wrap least (formula_tree b.0 d)) (parts.Formula b.0)
@@ -64,9 +67,9 @@ conclusion_within t = go (is_quantified t)
     go false = (omega arith, omega arith)
 
 -- a quantifier, whose binder has the number of those around it and one more
-quantifies : (d : ℕ) (q : Quantifier) (s : Sort) (a : (f : Formula) × Prints f) (v : Formula) → prefixed (prefixes.Bind q (binders.Numbered (suc d)) s) (parts.Formula a.0) ≡ parts.Formula v → both (is_sort s) (readable_formula a.0 (suc d)) ≡ true → named_formula a.0 ≡ true → Shown d (quantified_tree q s d (formula_tree a.0 (suc d))) (parts.Formula v)
+quantifies : (d : ℕ) (q : Quantifier) (s : Sort) (a : (f : Formula) × Prints f) (v : Formula) → prefixed (prefixes.Bind q (binders.Numbered (suc d)) s) (parts.Formula a.0) ≡ parts.Formula v → (is_sort s && readable_formula a.0 (suc d)) ≡ true → named_formula a.0 ≡ true → Shown d (quantified_tree q s d (formula_tree a.0 (suc d))) (parts.Formula v)
 quantifies d q s a v e p n =
-    let r = split_both (is_sort s) (readable_formula a.0 (suc d)) p in
+    let r = and_parts (is_sort s) (readable_formula a.0 (suc d)) p in
     let x = operand 1 (suc d) a (omega arith) r.1 n in
     record { formed = (r.0, x.fit, x.formed); value = ap (prefixed (prefixes.Bind q (binders.Numbered (suc d)) s)) x.value ∙ e; plain = ((refl, r.0), x.plain); kind = (omega arith, omega arith) }
 
@@ -95,10 +98,10 @@ shown_layer (Formula-F.Imp f g) d p m =
     joins d infixes.Implies (conclusion_level (formula_tree g.0 d)) f g (roll-Formula (Formula-F.Imp f.0 g.0)) refl (omega arith) (omega arith) (omega arith) c.0 c.1 p m
 shown_layer (Formula-F.All s f) d p m = quantifies d quantifiers.All s f (roll-Formula (Formula-F.All s f.0)) refl p m
 shown_layer (Formula-F.Any s f) d p m = quantifies d quantifiers.Any s f (roll-Formula (Formula-F.Any s f.0)) refl p m
-shown_layer (Formula-F.App w []) d p m = absurd (true≢false (sym (split_both (is_upper w) false p).1))
+shown_layer (Formula-F.App w []) d p m = absurd (true≢false (sym (and_parts (is_upper w) false p).1))
 shown_layer (Formula-F.App w (t ∷ ts)) d p m =
-    let q = split_both (is_upper w) (all_of (map (λ a. a d) (map readable_term (t ∷ ts)))) p in
-    let n = split_both (is_name w) (named_terms (t ∷ ts)) m in
+    let q = and_parts (is_upper w) (all_of (map (λ a. a d) (map readable_term (t ∷ ts)))) p in
+    let n = and_parts (is_name w) (named_terms (t ∷ ts)) m in
     let y = all_fit (t ∷ ts) d q.1 n.1 in
     predicate_shown d w _ (t ∷ ts) q.0 (called d w none (wrap 6 (term_tree t d)) _ t ts n.0 tt tt y.0 y.1)
 

@@ -3,9 +3,11 @@ use Rattle.std.proofs.Common.{◌≡◌, ℕ, zero, suc, Bool, true, false, cond
 use Rattle.std.specs.Prelude.{leb, eqb, not, ◌&&◌, codes, option_map, option_and_then}
 use Rattle.std.specs.List.{list_all}
 use Rattle.std.proofs.lemmas.Bool.Decides.{nat_tests}
+use Rattle.std.proofs.lemmas.Bool.{and_parts, and_from}
 use Rattle.rw_terms.specs.Names.{is_name, is_digit}
 use Rattle.rw_terms.specs.declared.term.Term.{Term}
 use Rattle.rw_terms.specs.declared.term.Formula.{Formula}
+use Rattle.rw_terms.specs.AllOf.{all_of}
 use Rattle.rw_arith.specs.declared.line.Ref.{Ref}
 use Rattle.rw_arith.specs.declared.line.Ref.TheVariants as refs
 use Rattle.rw_arith.specs.declared.line.Part.{Part as SumPart}
@@ -14,15 +16,16 @@ use Rattle.rw_arith.specs.declared.line.LinLine.TheVariants as sums
 use Rattle.rw_sequents.specs.declared.line.CertLine.{CertLine}
 use Rattle.rw_sequents.specs.declared.line.CertLine.TheVariants as lines
 use Rattle.rw_sequents.specs.declared.line.Cert.{Cert}
+use Rattle.rw_syntax.proofs.Choices.{some_is}
 use Rattle.rw_syntax.specs.declared.frame.Part.{Part}
 use Rattle.rw_syntax.specs.Grammar.{part, is_upper, as_term, as_formula}
-use Rattle.rw_reader.specs.Tokens.{Token, text, number, binder, number_of}
-use Rattle.rw_reader.specs.Forms.{Slot, exactly, a_variable, a_constant, any_name, a_number, a_reference, Filled, filled, is_lower, is_variable, counted, digits_number, formula_named, Given, a_request, a_cert, a_name, a_parameter, a_kid, a_term, a_formula, a_line, a_part, a_sum, Form, gives, takes, either, rest_of, more_of, one_of, followed, many, fewer, behind, AreItems, IsOf}
-use Rattle.rw_reader.specs.Phrases.{mark, formula, term, term_form, term_in, terms, closed_terms}
-use Rattle.rw_reader.specs.Certificates.{later_rules, numbered_rules, numbered, number_and_term, number_and_name, two_numbers, two_terms, put_same, put_other, axioms, instances, any_number, signed, times, sum_part, part_form, part_in, sum_of, sum_or_quotient, lin_line, closed_line, lin_form, lin_in, closed_lines, lin, lemma, rule, line_form, line_in, cert, cert_form}
-use Rattle.rw_reader.specs.Reading.{SpellsAs}
-use Rattle.rw_printer.specs.Readable.{both, all_of, some_and_all, is_counted, is_literal, is_multiplier, readable_reference, readable_part, readable_sum, readable_term, readable_terms, readable_formula, readable_line, readable_cert}
-use Rattle.rw_printer.proofs.SpelledValues.{IsGood, both_true, as_term_good, as_formula_good, good}
+use Rattle.rw_tokens.specs.Tokens.{Token, text, number, binder, number_of}
+use Rattle.rw_forms.specs.Forms.{Slot, exactly, a_variable, a_constant, any_name, a_number, a_reference, Filled, filled, is_lower, is_variable, counted, digits_number, formula_named, Given, a_request, a_cert, a_name, a_parameter, a_kid, a_term, a_formula, a_line, a_part, a_sum, Form, gives, takes, either, rest_of, more_of, one_of, followed, many, fewer, behind, AreItems, IsOf}
+use Rattle.rw_forms.specs.Phrases.{mark, formula, term, term_form, term_in, terms, closed_terms}
+use Rattle.rw_forms.specs.Certificates.{later_rules, numbered_rules, numbered, number_and_term, number_and_name, two_numbers, two_terms, put_same, put_other, axioms, instances, any_number, signed, times, sum_part, part_form, part_in, sum_of, sum_or_quotient, lin_line, closed_line, lin_form, lin_in, closed_lines, lin, lemma, rule, line_form, line_in, cert, cert_form}
+use Rattle.rw_forms.specs.Reading.{SpellsAs}
+use Rattle.rw_printer.specs.Readable.{some_and_all, is_counted, is_literal, is_multiplier, readable_reference, readable_part, readable_sum, readable_term, readable_terms, readable_formula, readable_line, readable_cert}
+use Rattle.rw_printer.proofs.SpelledValues.{IsGood, as_term_good, as_formula_good, good}
 
 -- what the token of a slot says is as a text can have it
 abbrev FilledWell : (s : Slot) → Filled s → Type 0
@@ -33,19 +36,6 @@ FilledWell any_name x = Unit {0}
 FilledWell (a_number least most) n = leb n most ≡ true
 FilledWell a_reference f = readable_reference f ≡ true
 
-some_name : {x y : List ℕ} → Some x ≡ Some y → x ≡ y
-some_name e = cc
-
-some_number : {x y : ℕ} → Some x ≡ Some y → x ≡ y
-some_number e = cc
-
-some_reference : {x y : Ref} → Some x ≡ Some y → x ≡ y
-some_reference e = cc
-
-second : (a b : Bool) → (a && b) ≡ true → b ≡ true
-second true b e = e
-second false b e = absurd (true≢false (sym e))
-
 not_upper : (w : List ℕ) → is_lower w ≡ true → not (is_upper w) ≡ true
 not_upper [] e = absurd (true≢false (sym e))
 not_upper (b ∷ bs) e = above b e
@@ -55,15 +45,15 @@ not_upper (b ∷ bs) e = above b e
 
 variable_well : (w x : List ℕ) → (b : Bool) → is_variable w ≡ b → cond b (Some w) None ≡ Some x → not (is_upper x) ≡ true
 unfolding is_variable
-variable_well w x true z e = subst (λ y. not (is_upper y) ≡ true) (some_name e) (not_upper w (second (is_name w) (is_lower w) z))
+variable_well w x true z e = subst (λ y. not (is_upper y) ≡ true) (some_is e) (not_upper w (and_parts (is_name w) (is_lower w) z).1)
 variable_well w x false z e = absurd (cc (e))
 
 number_well : (least most n x : ℕ) → (b : Bool) → (leb least n && leb n most) ≡ b → cond b (Some n) None ≡ Some x → leb x most ≡ true
-number_well least most n x true z e = subst (λ y. leb y most ≡ true) (some_number e) (second (leb least n) (leb n most) z)
+number_well least most n x true z e = subst (λ y. leb y most ≡ true) (some_is e) (and_parts (leb least n) (leb n most) z).1
 number_well least most n x false z e = absurd (cc (e))
 
 counted_well : (n x : ℕ) → (b : Bool) → leb n 4294967295 ≡ b → cond b (Some n) None ≡ Some x → is_counted x ≡ true
-counted_well n x true z e = subst (λ y. is_counted y ≡ true) (some_number e) z
+counted_well n x true z e = subst (λ y. is_counted y ≡ true) (some_is e) z
 counted_well n x false z e = absurd (cc (e))
 
 counted_number : (o : Option ℕ) (x : ℕ) → option_and_then counted o ≡ Some x → is_counted x ≡ true
@@ -80,7 +70,7 @@ digits_well (d ∷ ds) x e = go (list_all is_digit (d ∷ ds)) e
 
 made_well : (make : ℕ → Ref) (o : Option ℕ) (f : Ref) → ((n : ℕ) → readable_reference (make n) ≡ is_counted n) → ((x : ℕ) → o ≡ Some x → is_counted x ≡ true) → option_map make o ≡ Some f → readable_reference f ≡ true
 made_well make None f s h e = absurd (cc (e))
-made_well make (Some n) f s h e = subst (λ y. readable_reference y ≡ true) (some_reference e) (s n ∙ h n refl)
+made_well make (Some n) f s h e = subst (λ y. readable_reference y ≡ true) (some_is e) (s n ∙ h n refl)
 
 named_well : (w : List ℕ) (f : Ref) → formula_named w ≡ Some f → readable_reference f ≡ true
 named_well [] f e = absurd (cc (e))
@@ -146,7 +136,7 @@ many_yields P Q item sep k y h = followed_yields P Q item (λ g. more_of item se
 
 all_mapped : {A : Type 0} (Q : Given → Bool) (un : Given → A) (test : A → Bool) → ((g : Given) → Q g ≡ true → test (un g) ≡ true) → (gs : List Given) → AllAre Q gs → all_of (map test (map un gs)) ≡ true
 all_mapped Q un test h [] a = refl
-all_mapped Q un test h (g ∷ gs) a = both_true (test (un g)) (all_of (map test (map un gs))) (h g a.0) (all_mapped Q un test h gs a.1)
+all_mapped Q un test h (g ∷ gs) a = and_from (test (un g)) (all_of (map test (map un gs))) (h g a.0) (all_mapped Q un test h gs a.1)
 
 -- terms
 
@@ -197,14 +187,14 @@ unfolding two_terms
 two_terms_yield P k h = term_yields P 512 (λ a. mark (codes ",") (term 512 (λ b. k (a, b)))) (λ a p x w. term_yields P 512 (λ b. k (a, b)) (λ b q. h a b p q))
 
 -- two, three and four at once
-two_good : (a b : Bool) → a ≡ true → b ≡ true → both a (both b true) ≡ true
-two_good a b p q = both_true a (both b true) p (both_true b true q refl)
+two_good : (a b : Bool) → a ≡ true → b ≡ true → (a && (b && true)) ≡ true
+two_good a b p q = and_from a (b && true) p (and_from b true q refl)
 
-three_good : (a b c : Bool) → a ≡ true → b ≡ true → c ≡ true → both a (both b (both c true)) ≡ true
-three_good a b c p q r = both_true a (both b (both c true)) p (two_good b c q r)
+three_good : (a b c : Bool) → a ≡ true → b ≡ true → c ≡ true → (a && (b && (c && true))) ≡ true
+three_good a b c p q r = and_from a (b && (c && true)) p (two_good b c q r)
 
-four_good : (a b c d : Bool) → a ≡ true → b ≡ true → c ≡ true → d ≡ true → both a (both b (both c (both d true))) ≡ true
-four_good a b c d p q r s = both_true a (both b (both c (both d true))) p (three_good b c d q r s)
+four_good : (a b c d : Bool) → a ≡ true → b ≡ true → c ≡ true → d ≡ true → (a && (b && (c && (d && true)))) ≡ true
+four_good a b c d p q r s = and_from a (b && (c && (d && true))) p (three_good b c d q r s)
 
 -- what is to be said of what a line goes on with
 abbrev Lines : (Given → Bool) → (CertLine → Form) → Type 0
@@ -269,17 +259,17 @@ axioms_yield P k h = (
   ),
 )
 
-by_term : (P : Given → Bool) (k : ℕ × Term → Form) → ((n : ℕ) (t : Term) → both (is_counted n) (readable_term t 0) ≡ true → Yields P (k (n, t))) → Yields P (number_and_term k)
+by_term : (P : Given → Bool) (k : ℕ × Term → Form) → ((n : ℕ) (t : Term) → (is_counted n && readable_term t 0) ≡ true → Yields P (k (n, t))) → Yields P (number_and_term k)
 unfolding number_and_term
-by_term P k h = λ n w. term_yields P 512 (λ t. k (n, t)) (λ t p. h n t (both_true (is_counted n) (readable_term t 0) w p))
+by_term P k h = λ n w. term_yields P 512 (λ t. k (n, t)) (λ t p. h n t (and_from (is_counted n) (readable_term t 0) w p))
 
-by_name : (P : Given → Bool) (k : ℕ × List ℕ → Form) → ((n : ℕ) (y : List ℕ) → both (is_counted n) (not (is_upper y)) ≡ true → Yields P (k (n, y))) → Yields P (number_and_name k)
+by_name : (P : Given → Bool) (k : ℕ × List ℕ → Form) → ((n : ℕ) (y : List ℕ) → (is_counted n && not (is_upper y)) ≡ true → Yields P (k (n, y))) → Yields P (number_and_name k)
 unfolding number_and_name
-by_name P k h = λ n w y u. h n y (both_true (is_counted n) (not (is_upper y)) w u)
+by_name P k h = λ n w y u. h n y (and_from (is_counted n) (not (is_upper y)) w u)
 
-by_numbers : (P : Given → Bool) (k : ℕ × ℕ → Form) → ((i m : ℕ) → both (is_counted i) (is_counted m) ≡ true → Yields P (k (i, m))) → Yields P (two_numbers k)
+by_numbers : (P : Given → Bool) (k : ℕ × ℕ → Form) → ((i m : ℕ) → (is_counted i && is_counted m) ≡ true → Yields P (k (i, m))) → Yields P (two_numbers k)
 unfolding two_numbers
-by_numbers P k h = λ i w m u. h i m (both_true (is_counted i) (is_counted m) w u)
+by_numbers P k h = λ i w m u. h i m (and_from (is_counted i) (is_counted m) w u)
 
 instances_yield : (P : Given → Bool) (k : CertLine → Form) → Lines P k → Yields P (instances k)
 unfolding instances
@@ -305,7 +295,7 @@ minus_fits (suc n) w = w
 
 times_yield : (P : Given → Bool) (minus : Bool) (n : ℕ) (k : SumPart → Form) → leb n 170141183460469231731687303715884105727 ≡ true → ((p : SumPart) → readable_part p ≡ true → Yields P (k p)) → Yields P (times minus n k)
 unfolding times
-times_yield P minus n k w h = λ x z f r. h (record { times = signed minus n; of = f }) (both_true (is_multiplier (signed minus n)) (readable_reference f) (fits minus) r)
+times_yield P minus n k w h = λ x z f r. h (record { times = signed minus n; of = f }) (and_from (is_multiplier (signed minus n)) (readable_reference f) (fits minus) r)
   where
     fits : (b : Bool) → is_multiplier (signed b n) ≡ true
     fits true = minus_fits n w
@@ -338,7 +328,7 @@ sum_yields : (P : Given → Bool) (minus : Bool) (n : ℕ) (k : LinLine → Form
 unfolding sum_of
 sum_yields P minus n k w h =
     times_yield P minus n (λ p. more_of part_form (codes "+") (a_part p ∷ []) (λ gs. k (sums.Sum (map part_in gs)))) w
-    (λ p r. (is_part, part_yields, λ gs a. h (sums.Sum (p ∷ map part_in gs)) (both_true (readable_part p) (all_of (map readable_part (map part_in gs))) r (all_mapped is_part part_in readable_part part_is gs a))))
+    (λ p r. (is_part, part_yields, λ gs a. h (sums.Sum (p ∷ map part_in gs)) (and_from (readable_part p) (all_of (map readable_part (map part_in gs))) r (all_mapped is_part part_in readable_part part_is gs a))))
 
 chosen_yields : (P : Given → Bool) (b : Bool) (f g : Form) → (b ≡ true → Yields P f) → Yields P g → Yields P (cond b f g)
 chosen_yields P true f g y z = y refl
@@ -348,7 +338,7 @@ lin_line_yields : (P : Given → Bool) (k : LinLine → Form) → Sums P k → Y
 unfolding lin_line sum_or_quotient
 lin_line_yields P k h = (
   (λ n w. sum_yields P true n k w h),
-  (λ n w. chosen_yields P (leb n 4294967295) (either (codes "/") (any_number (λ d. k (sums.Divide n (pos d)))) (sum_of false n k)) (sum_of false n k) (λ c. ((λ d u. h (sums.Divide n (pos d)) (both_true (is_counted n) (is_literal (pos d)) c u)), sum_yields P false n k w h)) (sum_yields P false n k w h)),
+  (λ n w. chosen_yields P (leb n 4294967295) (either (codes "/") (any_number (λ d. k (sums.Divide n (pos d)))) (sum_of false n k)) (sum_of false n k) (λ c. ((λ d u. h (sums.Divide n (pos d)) (and_from (is_counted n) (is_literal (pos d)) c u)), sum_yields P false n k w h)) (sum_yields P false n k w h)),
 )
 
 closed_line_yields : (P : Given → Bool) (k : LinLine → Form) → Sums P k → Yields P (closed_line k)

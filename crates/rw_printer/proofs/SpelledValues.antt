@@ -1,7 +1,7 @@
 -- What tokens spell is readable.
 use Rattle.std.proofs.Common.{◌≡◌, ℕ, suc, ◌<◌, Bool, true, false, cond, List, [], ◌∷◌, ◌++◌, length, Option, Some, None, refl, ap, ◌∙◌, subst, arith, pos, map}
-use Rattle.std.specs.Prelude.{not, ltb, option_map}
-use Rattle.std.proofs.lemmas.Bool.Decides.{nat_tests}
+use Rattle.std.specs.Prelude.{◌&&◌, not, option_map}
+use Rattle.std.proofs.lemmas.Bool.{and_parts, and_from, lt-ltb}
 use Rattle.rw_terms.specs.declared.term.Term.{Term}
 use Rattle.rw_terms.specs.declared.term.Term.TheOpen.{Term-F}
 use Rattle.rw_terms.specs.declared.term.Term.TheViews.{roll-Term}
@@ -10,6 +10,7 @@ use Rattle.rw_terms.specs.declared.term.Formula.{Formula}
 use Rattle.rw_terms.specs.declared.term.Formula.TheOpen.{Formula-F}
 use Rattle.rw_terms.specs.declared.term.Formula.TheViews.{roll-Formula}
 use Rattle.rw_terms.specs.declared.term.Formula.TheFolds.{map-Formula, fold-roll-Formula}
+use Rattle.rw_terms.specs.AllOf.{all_of}
 use Rattle.rw_syntax.specs.declared.token.Infix.{Infix}
 use Rattle.rw_syntax.specs.declared.token.Infix.TheVariants as infixes
 use Rattle.rw_syntax.specs.declared.token.Quantifier.TheVariants as quantifiers
@@ -23,8 +24,7 @@ use Rattle.rw_syntax.specs.declared.frame.Prefix.TheVariants as prefixes
 use Rattle.rw_syntax.specs.declared.frame.Head.{Head}
 use Rattle.rw_syntax.specs.declared.frame.Head.TheVariants as heads
 use Rattle.rw_syntax.specs.Grammar.{Leaf, number, word, initial, place, truth, Tree, leaf, prefix, binary, group, index, call, Trees, none, more, is_upper, is_sort, is_binder, is_known, is_prefix, find, same_binder, inner, named, bound_or, leaf_part, as_term, as_formula, prefixed, joined, put_of, applied, part, values, IsFormed, AreFormed, Reads}
-use Rattle.rw_printer.specs.Readable.{both, all_of, some_and_all, readable_term_step, readable_term, readable_step, readable_formula}
-use Rattle.rw_printer.proofs.Fits.{split_both}
+use Rattle.rw_printer.specs.Readable.{some_and_all, readable_term_step, readable_term, readable_step, readable_formula}
 
 abbrev pub IsGood : ℕ → Part → Type 0
 IsGood n (parts.Term t) = readable_term t n ≡ true
@@ -36,9 +36,6 @@ term_good x n p = ap (λ f. f n) (fold-roll-Term (ℕ → Bool) readable_term_st
 formula_good : (x : Formula-F Formula) (n : ℕ) → readable_step (map-Formula Formula (ℕ → Bool) readable_formula x) n ≡ true → readable_formula (roll-Formula x) n ≡ true
 formula_good x n p = ap (λ f. f n) (fold-roll-Formula (ℕ → Bool) readable_step x) ∙ p
 
-pub both_true : (a b : Bool) → a ≡ true → b ≡ true → both a b ≡ true
-both_true a b e f = ap (λ x. both x b) e ∙ f
-
 pub as_term_good : (n : ℕ) (v : Part) → IsGood n v → readable_term (as_term v) n ≡ true
 as_term_good n (parts.Term t) g = g
 as_term_good n (parts.Formula f) g = term_good (Term-F.Lit (pos 0)) n refl
@@ -47,11 +44,11 @@ pub as_formula_good : (n : ℕ) (v : Part) → IsGood n v → readable_formula (
 as_formula_good n (parts.Term t) g = formula_good Formula-F.True n refl
 as_formula_good n (parts.Formula f) g = g
 
-two_terms : (n : ℕ) (a b : Part) → IsGood n a → IsGood n b → both (readable_term (as_term a) n) (readable_term (as_term b) n) ≡ true
-two_terms n a b x y = both_true (readable_term (as_term a) n) (readable_term (as_term b) n) (as_term_good n a x) (as_term_good n b y)
+two_terms : (n : ℕ) (a b : Part) → IsGood n a → IsGood n b → (readable_term (as_term a) n && readable_term (as_term b) n) ≡ true
+two_terms n a b x y = and_from (readable_term (as_term a) n) (readable_term (as_term b) n) (as_term_good n a x) (as_term_good n b y)
 
-two_formulas : (n : ℕ) (a b : Part) → IsGood n a → IsGood n b → both (readable_formula (as_formula a) n) (readable_formula (as_formula b) n) ≡ true
-two_formulas n a b x y = both_true (readable_formula (as_formula a) n) (readable_formula (as_formula b) n) (as_formula_good n a x) (as_formula_good n b y)
+two_formulas : (n : ℕ) (a b : Part) → IsGood n a → IsGood n b → (readable_formula (as_formula a) n && readable_formula (as_formula b) n) ≡ true
+two_formulas n a b x y = and_from (readable_formula (as_formula a) n) (readable_formula (as_formula b) n) (as_formula_good n a x) (as_formula_good n b y)
 
 joined_good : (op : Infix) (n : ℕ) (a b : Part) → IsGood n a → IsGood n b → IsGood n (joined op a b)
 joined_good infixes.Implies n a b x y = formula_good (Formula-F.Imp (as_formula a) (as_formula b)) n (two_formulas n a b x y)
@@ -76,8 +73,8 @@ sort_of_prefix false b e = absurd (cc)
 prefixed_good : (p : Prefix) (env : List Binder) (v : Part) → is_prefix p ≡ true → IsGood (length (inner p env)) v → IsGood (length env) (prefixed p v)
 prefixed_good prefixes.Minus env v h g = term_good (Term-F.Neg (as_term v)) (length env) (as_term_good (length env) v g)
 prefixed_good prefixes.Not env v h g = formula_good (Formula-F.Not (as_formula v)) (length env) (as_formula_good (length env) v g)
-prefixed_good (prefixes.Bind quantifiers.All b s) env v h g = formula_good (Formula-F.All s (as_formula v)) (length env) (both_true (is_sort s) (readable_formula (as_formula v) (suc (length env))) (sort_of_prefix (is_binder b) (is_sort s) h) (as_formula_good (suc (length env)) v g))
-prefixed_good (prefixes.Bind quantifiers.Any b s) env v h g = formula_good (Formula-F.Any s (as_formula v)) (length env) (both_true (is_sort s) (readable_formula (as_formula v) (suc (length env))) (sort_of_prefix (is_binder b) (is_sort s) h) (as_formula_good (suc (length env)) v g))
+prefixed_good (prefixes.Bind quantifiers.All b s) env v h g = formula_good (Formula-F.All s (as_formula v)) (length env) (and_from (is_sort s) (readable_formula (as_formula v) (suc (length env))) (sort_of_prefix (is_binder b) (is_sort s) h) (as_formula_good (suc (length env)) v g))
+prefixed_good (prefixes.Bind quantifiers.Any b s) env v h g = formula_good (Formula-F.Any s (as_formula v)) (length env) (and_from (is_sort s) (readable_formula (as_formula v) (suc (length env))) (sort_of_prefix (is_binder b) (is_sort s) h) (as_formula_good (suc (length env)) v g))
 
 deeper : (t : Bool) (n : ℕ) (o : Option ℕ) (k : ℕ) → ((j : ℕ) → o ≡ Some j → j < n) → cond t (Some 0) (option_map suc o) ≡ Some k → k < suc n
 deeper true n o k r h = let z : 0 ≡ k = cc in omega arith
@@ -88,15 +85,12 @@ find_within : (b : Binder) (env : List Binder) (k : ℕ) → find b env ≡ Some
 find_within b [] k e = absurd (cc)
 find_within b (c ∷ cs) k e = deeper (same_binder b c) (length cs) (find b cs) k (λ j f. find_within b cs j f) e
 
-below : (k n : ℕ) → k < n → ltb k n ≡ true
-below k n h = grind (arith, nat_tests)
-
 found_good : (env : List Binder) (b : Binder) (t : Term) → (find b env ≡ None → readable_term t (length env) ≡ true) → IsGood (length env) (bound_or t (find b env))
 found_good env b t g = go (find b env) refl
   where
     go : (o : Option ℕ) → find b env ≡ o → IsGood (length env) (bound_or t o)
     go None e = g e
-    go (Some k) e = term_good (Term-F.Bound k) (length env) (below k (length env) (find_within b env k e))
+    go (Some k) e = term_good (Term-F.Bound k) (length env) (lt-ltb k (length env) (find_within b env k e))
 
 named_good : (w : List ℕ) (n : ℕ) → readable_term (named w) n ≡ true
 named_good w n = go (is_upper w) refl
@@ -117,10 +111,10 @@ abbrev AreGood : ℕ → List Term → Type 0
 AreGood n ts = all_of (map (λ a. a n) (map readable_term ts)) ≡ true
 
 one_more : (n : ℕ) (ts : List Term) (t : Term) → AreGood n ts → readable_term t n ≡ true → AreGood n (ts ++ t ∷ [])
-one_more n [] t g h = both_true (readable_term t n) true h refl
+one_more n [] t g h = and_from (readable_term t n) true h refl
 one_more n (k ∷ ks) t g h =
-    let q = split_both (readable_term k n) (all_of (map (λ a. a n) (map readable_term ks))) g in
-    both_true (readable_term k n) (all_of (map (λ a. a n) (map readable_term (ks ++ t ∷ [])))) q.0 (one_more n ks t q.1 h)
+    let q = and_parts (readable_term k n) (all_of (map (λ a. a n) (map readable_term ks))) g in
+    and_from (readable_term k n) (all_of (map (λ a. a n) (map readable_term (ks ++ t ∷ [])))) q.0 (one_more n ks t q.1 h)
 
 some_more : (n : ℕ) (ts : List Term) (t : Term) → AreGood n ts → readable_term t n ≡ true → some_and_all (map (λ a. a n) (map readable_term (ts ++ t ∷ []))) ≡ true
 some_more n [] t g h = one_more n [] t g h
@@ -130,9 +124,9 @@ put_good : (n : ℕ) (ts : List Term) (e : Term) → AreGood n ts → readable_t
 put_good n [] e g h = h
 put_good n (a ∷ []) e g h = h
 put_good n (a ∷ i ∷ []) e g h =
-    let q = split_both (readable_term a n) (both (readable_term i n) true) g in
-    let r = split_both (readable_term i n) true q.1 in
-    term_good (Term-F.Put a i e) n (both_true (readable_term a n) (both (readable_term i n) (readable_term e n)) q.0 (both_true (readable_term i n) (readable_term e n) r.0 h))
+    let q = and_parts (readable_term a n) (readable_term i n && true) g in
+    let r = and_parts (readable_term i n) true q.1 in
+    term_good (Term-F.Put a i e) n (and_from (readable_term a n) (readable_term i n && readable_term e n) q.0 (and_from (readable_term i n) (readable_term e n) r.0 h))
 put_good n (a ∷ i ∷ j ∷ ts) e g h = h
 
 applied_good : (hd : Head) (n : ℕ) (ts : List Term) (v : Part) → AreGood n ts → IsGood n v → IsGood n (applied hd ts v)
@@ -146,8 +140,8 @@ applied_good (heads.Named w) n ts v g h = go (is_upper w) refl
     all = some_more n ts (as_term v) g (as_term_good n v h)
 
     go : (u : Bool) → is_upper w ≡ u → IsGood n (cond u (parts.Formula (roll-Formula (Formula-F.App w args))) (parts.Term (roll-Term (Term-F.Fun w args))))
-    go true e = formula_good (Formula-F.App w args) n (both_true (is_upper w) (some_and_all (map (λ a. a n) (map readable_term args))) e all)
-    go false e = term_good (Term-F.Fun w args) n (both_true (not (is_upper w)) (some_and_all (map (λ a. a n) (map readable_term args))) (ap not e) all)
+    go true e = formula_good (Formula-F.App w args) n (and_from (is_upper w) (some_and_all (map (λ a. a n) (map readable_term args))) e all)
+    go false e = term_good (Term-F.Fun w args) n (and_from (not (is_upper w)) (some_and_all (map (λ a. a n) (map readable_term args))) (ap not e) all)
 
 mutual
   pub good : (t : Tree) (env : List Binder) → IsFormed env t → IsGood (length env) (part env t)

@@ -3,10 +3,10 @@ use Rattle.std.proofs.Common.{◌≡◌, ℕ, true, List, [], ◌∷◌, ◌++�
 use Rattle.rw_syntax.specs.declared.frame.Part.{Part}
 use Rattle.rw_syntax.specs.Grammar.{Tree, level, fits, nests, text as tree_text}
 use Rattle.rw_syntax.specs.Spelling.{AreWithin}
-use Rattle.rw_reader.specs.Tokens.{Token, text, skip, token_at, LeadsTo}
-use Rattle.rw_reader.specs.Forms.{Slot, Filled, filled, Given, Form, gives, takes, rest_of, more_of, many, fewer, behind, AreItems, IsOf}
-use Rattle.rw_reader.specs.Phrases.{mark}
-use Rattle.rw_reader.proofs.Grammar.{join, behind_both, is_text_own, take_within}
+use Rattle.rw_tokens.specs.Tokens.{Token, text, skip, token_at, LeadsTo}
+use Rattle.rw_forms.specs.Forms.{Slot, Filled, filled, Given, Form, gives, takes, rest_of, more_of, many, fewer, behind, AreItems, IsOf}
+use Rattle.rw_forms.specs.Phrases.{mark}
+use Rattle.rw_forms.proofs.Grammar.{join, behind_both, is_text_own, take_within}
 use Rattle.rw_printer.specs.Layout.{listed}
 use Rattle.rw_printer.proofs.Fits.{Shown}
 use Rattle.rw_printer.proofs.Leading.{Leads, leads_join, skip_space}

@@ -2,26 +2,27 @@
 use Rattle.std.proofs.Common.{◌≡◌, ℕ, true, cond, List, [], ◌∷◌, ◌++◌, Some, None, refl, sym, ap, ◌∙◌, subst, arith, append_assoc, append-nil, map, inl, inr}
 use Rattle.std.specs.Prelude.{codes, decimal, not, length}
 use Rattle.std.specs.List.{list_all}
+use Rattle.std.proofs.lemmas.Bool.{and_parts}
 use Rattle.rw_terms.specs.Names.{is_letter, goes_on, is_name}
 use Rattle.rw_terms.specs.declared.term.Term.{Term}
 use Rattle.rw_terms.specs.declared.term.Formula.{Formula}
+use Rattle.rw_terms.specs.AllOf.{all_of}
 use Rattle.rw_arith.specs.declared.line.LinLine.{LinLine}
 use Rattle.rw_syntax.specs.Grammar.{is_upper}
 use Rattle.rw_sequents.specs.declared.line.CertLine.{CertLine}
 use Rattle.rw_sequents.specs.declared.line.CertLine.TheVariants as lines
-use Rattle.rw_reader.specs.declared.certificate.FormulaRule.{FormulaRule}
-use Rattle.rw_reader.specs.declared.certificate.FormulaRule.TheVariants as rules
-use Rattle.rw_reader.specs.Tokens.{Token, text, skip, token_at, front_token, doubles, singles, LeadsTo}
-use Rattle.rw_reader.specs.Forms.{a_variable, any_name, a_line, a_cert, Given, Form, gives, takes, many, fewer, IsOf}
-use Rattle.rw_reader.specs.Phrases.{mark, formula, term, terms, closed_terms}
-use Rattle.rw_reader.specs.Certificates.{formula_number, with_number, later_rules, numbered_rules, numbered, number_and_term, number_and_name, two_numbers, two_terms, put_same, put_other, axioms, instances, lin, lemma, rule, line_form, line_in, cert, cert_form}
-use Rattle.rw_reader.specs.Reading.{CertSpells}
-use Rattle.rw_reader.proofs.Grammar.{is_text_own}
+use Rattle.rw_forms.specs.declared.rule.FormulaRule.{FormulaRule}
+use Rattle.rw_forms.specs.declared.rule.FormulaRule.TheVariants as rules
+use Rattle.rw_tokens.specs.Tokens.{Token, text, skip, token_at, front_token, doubles, singles, LeadsTo}
+use Rattle.rw_forms.specs.Forms.{a_variable, any_name, a_line, a_cert, Given, Form, gives, takes, many, fewer, IsOf}
+use Rattle.rw_forms.specs.Phrases.{mark, formula, term, terms, closed_terms}
+use Rattle.rw_forms.specs.Certificates.{formula_number, with_number, later_rules, numbered_rules, numbered, number_and_term, number_and_name, two_numbers, two_terms, put_same, put_other, axioms, instances, lin, lemma, rule, line_form, line_in, cert, cert_form}
+use Rattle.rw_forms.specs.Certificates.{CertSpells}
+use Rattle.rw_forms.proofs.Grammar.{is_text_own}
 use Rattle.rw_printer.specs.Layout.{printed_term, printed_formula, listed}
 use Rattle.rw_printer.specs.Lines.{terms_text, closed_text, line_text, cert_text}
-use Rattle.rw_printer.specs.Readable.{all_of, some_and_all, is_counted, readable_term, named_term, named_terms, readable_formula, readable_sum, readable_terms, readable_line, named_line}
+use Rattle.rw_printer.specs.Readable.{some_and_all, is_counted, readable_term, named_term, named_terms, readable_formula, readable_sum, readable_terms, readable_line, named_line}
 use Rattle.rw_printer.specs.ReadsBack.{TermsStayWithin, LineStaysWithin, LinesStayWithin}
-use Rattle.rw_printer.proofs.Fits.{split_both}
 use Rattle.rw_printer.proofs.Leading.{skip_none, skip_space}
 use Rattle.rw_printer.proofs.Lexed.{Starts, starts_with, skip_start, byte_starts, name_starts}
 use Rattle.rw_printer.proofs.Fronts.{ends, ends_stops, word_front}
@@ -241,8 +242,8 @@ good_term most t p n w = record { readable = p; named = n; within = w.0 }
 good_terms : (most : ℕ) (ts : List Term) → readable_terms ts ≡ true → named_terms ts ≡ true → TermsStayWithin most ts → AllGood (GoodTerm most) ts
 good_terms most [] p n w = tt
 good_terms most (t ∷ ts) p n w =
-    let q = split_both (readable_term t 0) (readable_terms ts) p in
-    let m = split_both (named_term t) (named_terms ts) n in
+    let q = and_parts (readable_term t 0) (readable_terms ts) p in
+    let m = and_parts (named_term t) (named_terms ts) n in
     (record { readable = q.0; named = m.0; within = w.0 }, good_terms most ts q.1 m.1 w.1)
 
 grouped_instance : (a b r : List ℕ) → (a ++ codes " " ++ b) ++ r ≡ a ++ (32 ∷ (b ++ r))
@@ -282,22 +283,22 @@ line_spelt (lines.Flip i) r p n w e = numbered_spelt rules.Flip i r p e
 line_spelt (lines.UnfoldL i) r p n w e = numbered_spelt rules.UnfoldL i r p e
 line_spelt (lines.UnfoldR i) r p n w e = numbered_spelt rules.UnfoldR i r p e
 line_spelt (lines.AllL i t) r p n w e =
-    let q = split_both (is_counted i) (readable_term t 0) p in
+    let q = and_parts (is_counted i) (readable_term t 0) p in
     spelt_from (ap (λ z. codes "allL " ++ z) (grouped_instance (decimal i) (printed_term t) r)) (allL_spelt i t r q.0 (good_term 512 t q.1 n w) e)
 line_spelt (lines.ExR i t) r p n w e =
-    let q = split_both (is_counted i) (readable_term t 0) p in
+    let q = and_parts (is_counted i) (readable_term t 0) p in
     spelt_from (ap (λ z. codes "exR " ++ z) (grouped_instance (decimal i) (printed_term t) r)) (exR_spelt i t r q.0 (good_term 512 t q.1 n w) e)
 line_spelt (lines.AllR i x) r p n w e =
-    let q = split_both (is_counted i) (not (is_upper x)) p in
+    let q = and_parts (is_counted i) (not (is_upper x)) p in
     spelt_from (ap (λ z. codes "allR " ++ z) (grouped_instance (decimal i) x r)) (allR_spelt i x r q.0 n q.1 e)
 line_spelt (lines.ExL i x) r p n w e =
-    let q = split_both (is_counted i) (not (is_upper x)) p in
+    let q = and_parts (is_counted i) (not (is_upper x)) p in
     spelt_from (ap (λ z. codes "exL " ++ z) (grouped_instance (decimal i) x r)) (exL_spelt i x r q.0 n q.1 e)
 line_spelt (lines.RwL i m) r p n w e =
-    let q = split_both (is_counted i) (is_counted m) p in
+    let q = and_parts (is_counted i) (is_counted m) p in
     spelt_from (ap (λ z. codes "rwL " ++ z) (grouped_instance (decimal i) (decimal m) r)) (rwL_spelt i m r q.0 q.1 e)
 line_spelt (lines.RwR i m) r p n w e =
-    let q = split_both (is_counted i) (is_counted m) p in
+    let q = and_parts (is_counted i) (is_counted m) p in
     spelt_from (ap (λ z. codes "rwR " ++ z) (grouped_instance (decimal i) (decimal m) r)) (rwR_spelt i m r q.0 q.1 e)
 line_spelt (lines.PutSame a i x) r p n w e =
     let g = good_terms 512 (a ∷ i ∷ x ∷ []) p n w in
@@ -312,7 +313,7 @@ line_spelt (lines.DivMod a b) r p n w e =
     let g = good_terms 512 (a ∷ b ∷ []) p n w in
     spelt_from (ap (λ z. codes "divMod " ++ z) (grouped_pair (printed_term a) (printed_term b) r)) (div_mod_spelt a b r g.0 g.1.0 e)
 line_spelt (lines.Lemma x ts) r p n w e =
-    let m = split_both (is_name x) (named_terms ts) n in
+    let m = and_parts (is_name x) (named_terms ts) n in
     spelt_from (ap (λ z. codes "lemma " ++ z) (grouped_lemma x (terms_text ts) r)) (lemma_spelt x ts r m.0 (good_terms 511 ts p m.1 w))
 line_spelt (lines.Lin []) r p n w e = absurd (cc (p))
 line_spelt (lines.Lin (l ∷ ls)) r p n w e = spelt_from (ap (λ z. codes "lin [" ++ z) (append_assoc (closed_text l) (listed (codes " [") (codes " [") (map closed_text ls)) r)) (lin_line_spelt l ls r p e)
@@ -360,8 +361,8 @@ record GoodLine (l : CertLine) : Type 0 where
 good_lines : (ls : List CertLine) → all_of (map readable_line ls) ≡ true → all_of (map named_line ls) ≡ true → LinesStayWithin ls → AllGood GoodLine ls
 good_lines [] p n w = tt
 good_lines (l ∷ ls) p n w =
-    let q = split_both (readable_line l) (all_of (map readable_line ls)) p in
-    let m = split_both (named_line l) (all_of (map named_line ls)) n in
+    let q = and_parts (readable_line l) (all_of (map readable_line ls)) p in
+    let m = and_parts (named_line l) (all_of (map named_line ls)) n in
     (record { readable = q.0; named = m.0; within = w.0 }, good_lines ls q.1 m.1 w.1)
 
 line_item : (l : CertLine) → GoodLine l → (r : List ℕ) → ends r ≡ true → Item line_form (a_line l) (line_text l ++ r) (skip r)

@@ -2,6 +2,7 @@
 use Rattle.std.proofs.Common.{◌≡◌, ℕ, ◌≤◌, true, false, cond, List, [], ◌∷◌, ◌++◌, Some, None, refl, sym, ap, ◌∙◌, subst, arith, map}
 use Rattle.std.specs.Prelude.{leb, not, ◌&&◌, codes, decimal}
 use Rattle.std.proofs.lemmas.Bool.Decides.{nat_tests}
+use Rattle.std.proofs.lemmas.Bool.{not-true}
 use Rattle.rw_terms.specs.Names.{is_letter, is_name}
 use Rattle.rw_terms.specs.declared.term.Term.{Term}
 use Rattle.rw_terms.specs.declared.term.Formula.{Formula}
@@ -9,15 +10,14 @@ use Rattle.rw_syntax.specs.declared.frame.Part.TheVariants as parts
 use Rattle.rw_syntax.specs.Grammar.{level, nests, is_upper, as_term, as_formula}
 use Rattle.rw_syntax.specs.Spelling.{AreWithin}
 use Rattle.rw_syntax.proofs.Choices.{fits_to}
-use Rattle.rw_reader.specs.Tokens.{text, number, skip, token_at, front_token, doubles, singles}
-use Rattle.rw_reader.specs.Forms.{a_variable, any_name, a_number, is_lower, is_variable, takes, either, a_term, Form, rest_of}
-use Rattle.rw_reader.specs.Phrases.{mark, term, formula, term_form, term_in, terms}
-use Rattle.rw_reader.specs.Certificates.{formula_number, any_number, two_terms}
+use Rattle.rw_tokens.specs.Tokens.{text, number, skip, token_at, front_token, doubles, singles}
+use Rattle.rw_forms.specs.Forms.{a_variable, any_name, a_number, is_lower, is_variable, takes, a_term, Form, rest_of}
+use Rattle.rw_forms.specs.Phrases.{mark, term, formula, term_form, term_in, terms}
+use Rattle.rw_forms.specs.Certificates.{formula_number, any_number, two_terms}
 use Rattle.rw_printer.specs.Trees.{term_tree, formula_tree}
 use Rattle.rw_printer.specs.Layout.{printed_term, printed_formula, listed}
 use Rattle.rw_printer.specs.Readable.{readable_term, named_term, readable_formula, named_formula, is_counted}
 use Rattle.rw_printer.specs.ReadsBack.{StaysWithin}
-use Rattle.rw_printer.proofs.Fits.{not_true}
 use Rattle.rw_printer.proofs.Leading.{skip_none}
 use Rattle.rw_printer.proofs.Lexed.{Starts, starts, starts_with, number_starts, lexed}
 use Rattle.rw_printer.proofs.Fronts.{ends, stops, name_parts, name_token, number_token}
@@ -60,7 +60,7 @@ unfolding is_variable
 variable w n u = ap (λ b. b && is_lower w) n ∙ lower w n u
 
 pub variable_spelt : (w r : List ℕ) → is_name w ≡ true → not (is_upper w) ≡ true → stops r ≡ true → Spelt (takes a_variable) w (w ++ r) (skip r)
-variable_spelt w r n u e = slot_spelt a_variable w (w ++ r) (skip r) (text w) (name_token w r n e) (ap (λ b. cond b (Some w) None) (variable w n (not_true (is_upper w) u)))
+variable_spelt w r n u e = slot_spelt a_variable w (w ++ r) (skip r) (text w) (name_token w r n e) (ap (λ b. cond b (Some w) None) (variable w n (not-true (is_upper w) u)))
 
 pub name_spelt : (w r : List ℕ) → is_name w ≡ true → stops r ≡ true → Spelt (takes any_name) w (w ++ r) (skip r)
 name_spelt w r n e = slot_spelt any_name w (w ++ r) (skip r) (text w) (name_token w r n e) (ap (λ b. cond b (Some w) None) n)
@@ -137,4 +137,4 @@ pub terms_spelt : (most : ℕ) (t : Term) (ts : List Term) → most ≤ 512 → 
 unfolding terms
 terms_spelt most t ts h g gs r e =
     spelt_as (unwrapped a_term term_in (t ∷ ts) (λ x. refl))
-    (mapped (λ k. Rattle.rw_reader.specs.Forms.many (term_form most) (codes ",") k) (map term_in) (map a_term (t ∷ ts)) (list_spelt (term_form most) (codes ",") (codes ", ") a_term printed_term (GoodTerm most) (terms_laid most h) t ts g gs r e))
+    (mapped (λ k. Rattle.rw_forms.specs.Forms.many (term_form most) (codes ",") k) (map term_in) (map a_term (t ∷ ts)) (list_spelt (term_form most) (codes ",") (codes ", ") a_term printed_term (GoodTerm most) (terms_laid most h) t ts g gs r e))

@@ -4,25 +4,25 @@ use Rattle.std.specs.Prelude.{leb, nat_eq, ◌&&◌, codes, decimal, option_map,
 use Rattle.std.specs.Fmt.{signed_decimal}
 use Rattle.std.specs.List.{list_all}
 use Rattle.std.proofs.lemmas.Bool.Decides.{nat_tests}
+use Rattle.std.proofs.lemmas.Bool.{and_parts}
 use Rattle.rw_terms.specs.Names.{is_letter, is_digit, goes_on}
+use Rattle.rw_terms.specs.AllOf.{all_of}
 use Rattle.rw_arith.specs.declared.line.Ref.{Ref}
 use Rattle.rw_arith.specs.declared.line.Ref.TheVariants as refs
 use Rattle.rw_arith.specs.declared.line.Part.{Part as SumPart}
 use Rattle.rw_arith.specs.declared.line.LinLine.{LinLine}
 use Rattle.rw_arith.specs.declared.line.LinLine.TheVariants as sums
-use Rattle.rw_reader.specs.Tokens.{Token, text, number, skip, token_at, front_token, doubles, singles, number_of, text_of, with_next}
-use Rattle.rw_reader.specs.Forms.{a_reference, counted, digits_number, a_part, a_sum, Given, Form, takes, either, more_of, many, IsOf}
-use Rattle.rw_reader.specs.Phrases.{mark}
-use Rattle.rw_reader.specs.Certificates.{any_number, signed, times, sum_part, part_form, part_in, sum_of, sum_or_quotient, lin_line, closed_line, lin_form, lin_in, closed_lines, lin}
+use Rattle.rw_tokens.specs.Tokens.{Token, text, number, skip, token_at, front_token, doubles, singles, number_of, text_of, with_next}
+use Rattle.rw_forms.specs.Forms.{a_reference, counted, digits_number, a_part, a_sum, Given, Form, takes, either, more_of, many, IsOf}
+use Rattle.rw_forms.specs.Phrases.{mark}
+use Rattle.rw_forms.specs.Certificates.{any_number, signed, times, sum_part, part_form, part_in, sum_of, sum_or_quotient, lin_line, closed_line, lin_form, lin_in, closed_lines, lin}
 use Rattle.rw_printer.specs.Layout.{listed}
 use Rattle.rw_printer.specs.Lines.{reference_text, part_text, closed_text}
-use Rattle.rw_printer.specs.Readable.{all_of, some_and_all, is_counted, is_literal, is_multiplier, readable_reference, readable_part, readable_sum}
-use Rattle.rw_printer.proofs.Fits.{split_both}
+use Rattle.rw_printer.specs.Readable.{some_and_all, is_counted, is_literal, is_multiplier, readable_reference, readable_part, readable_sum}
 use Rattle.rw_printer.proofs.Leading.{skip_none, skip_space}
 use Rattle.rw_printer.proofs.Numerals.{decimal_digits, number_is}
 use Rattle.rw_printer.proofs.Lexed.{Starts, starts_with, skip_start, byte_starts, number_starts, grouped_3}
 use Rattle.rw_printer.proofs.Fronts.{ends, stops, ends_stops, small, minus_sign, open_bracket, shut_bracket, word_front, number_token}
-use Rattle.rw_printer.proofs.Marks.{split}
 use Rattle.rw_printer.proofs.Spelling.{Spelt, spelt_from, spelt_as, slot_spelt, chain, mapped, marked, closed, worded, within, item, Item, more_spelt, AllGood, Laid, rest_spelt, list_spelt, unwrapped, behind_space}
 use Rattle.rw_printer.proofs.SpeltParts.{any_spelt, counted_known, counted_starts}
 
@@ -31,7 +31,7 @@ use Rattle.rw_printer.proofs.SpeltParts.{any_spelt, counted_known, counted_start
 digits_go_on : (ds : List ℕ) → list_all is_digit ds ≡ true → list_all goes_on ds ≡ true
 digits_go_on [] h = refl
 digits_go_on (c ∷ cs) h =
-    let q = split (is_digit c) (list_all is_digit cs) h in
+    let q = and_parts (is_digit c) (list_all is_digit cs) h in
     ap (λ x. x && list_all goes_on cs) (on c q.0) ∙ digits_go_on cs q.1
   where
     on : (c : ℕ) → is_digit c ≡ true → goes_on c ≡ true
@@ -123,12 +123,12 @@ GoodPart p = readable_part p ≡ true
 
 part_starts : (p : SumPart) → GoodPart p → Starts (part_text p)
 unfolding part_text
-part_starts p g = starts_with _ _ (starts_with _ _ (multiplier_starts p.times (split_both (is_multiplier p.times) (readable_reference p.of) g).0))
+part_starts p g = starts_with _ _ (starts_with _ _ (multiplier_starts p.times (and_parts (is_multiplier p.times) (readable_reference p.of) g).0))
 
 part_item : (p : SumPart) → GoodPart p → (r : List ℕ) → ends r ≡ true → Item part_form (a_part p) (part_text p ++ r) (skip r)
 unfolding part_form part_text
 part_item p g r e =
-    let q = split_both (is_multiplier p.times) (readable_reference p.of) g in
+    let q = and_parts (is_multiplier p.times) (readable_reference p.of) g in
     item sum_part a_part p (spelt_from (grouped_3 (signed_decimal p.times) (codes "*") (reference_text p.of) r) (part_spelt p.times p.of r q.0 q.1 (ends_stops r e)))
 
 plus_front : (y : List ℕ) → Starts y → token_at (skip (32 ∷ 43 ∷ 32 ∷ y)) ≡ Some (text (codes "+"), y)
@@ -199,7 +199,7 @@ GoodSum l = readable_sum l ≡ true
 
 all_parts : (ps : List SumPart) → all_of (map readable_part ps) ≡ true → AllGood GoodPart ps
 all_parts [] h = tt
-all_parts (p ∷ ps) h = let q = split_both (readable_part p) (all_of (map readable_part ps)) h in (q.0, all_parts ps q.1)
+all_parts (p ∷ ps) h = let q = and_parts (readable_part p) (all_of (map readable_part ps)) h in (q.0, all_parts ps q.1)
 
 bracket : (l : LinLine) (w r : List ℕ) → ends r ≡ true → Spelt lin_line l (w ++ (93 ∷ r)) (skip (93 ∷ r)) → Spelt closed_line l (w ++ (93 ∷ r)) (skip r)
 unfolding closed_line
@@ -215,8 +215,8 @@ pub closed_spelt : (l : LinLine) → GoodSum l → (r : List ℕ) → ends r ≡
 unfolding part_text
 closed_spelt (sums.Sum []) g r e = absurd (cc (g))
 closed_spelt (sums.Sum (p ∷ ps)) g r e =
-    let q = split_both (readable_part p) (all_of (map readable_part ps)) g in
-    let h = split_both (is_multiplier p.times) (readable_reference p.of) q.0 in
+    let q = and_parts (readable_part p) (all_of (map readable_part ps)) g in
+    let h = and_parts (is_multiplier p.times) (readable_reference p.of) q.0 in
     let l = listed (codes " + ") (codes " + ") (map part_text ps) in
     let w = signed_decimal p.times ++ (42 ∷ (reference_text p.of ++ l)) in
     let shown : signed_decimal p.times ++ (42 ∷ (reference_text p.of ++ (l ++ (93 ∷ r)))) ≡ w ++ (93 ∷ r) = sym (grouped_w (signed_decimal p.times) (reference_text p.of) l (93 ∷ r)) in
@@ -226,7 +226,7 @@ closed_spelt (sums.Sum (p ∷ ps)) g r e =
     grouped_w : (a c l z : List ℕ) → (a ++ (42 ∷ (c ++ l))) ++ z ≡ a ++ (42 ∷ (c ++ (l ++ z)))
     grouped_w a c l z = simp append_assoc
 closed_spelt (sums.Divide n d) g r e =
-    let q = split_both (is_counted n) (is_literal d) g in
+    let q = and_parts (is_counted n) (is_literal d) g in
     let w = decimal n ++ (47 ∷ signed_decimal d) in
     let shown : decimal n ++ (47 ∷ (signed_decimal d ++ (93 ∷ r))) ≡ w ++ (93 ∷ r) = sym (append_assoc (decimal n) (47 ∷ signed_decimal d) (93 ∷ r)) in
     spelt_from (grouped_quotient (decimal n) (codes "/") (signed_decimal d) r ∙ shown)
@@ -234,8 +234,8 @@ closed_spelt (sums.Divide n d) g r e =
 
 closed_starts : (l : LinLine) → GoodSum l → Starts (closed_text l)
 closed_starts (sums.Sum []) g = absurd (cc (g))
-closed_starts (sums.Sum (p ∷ ps)) g = starts_with _ _ (starts_with _ _ (part_starts p (split_both (readable_part p) (all_of (map readable_part ps)) g).0))
-closed_starts (sums.Divide n d) g = starts_with _ _ (starts_with _ _ (starts_with _ _ (counted_starts n (split_both (is_counted n) (is_literal d) g).0)))
+closed_starts (sums.Sum (p ∷ ps)) g = starts_with _ _ (starts_with _ _ (part_starts p (and_parts (readable_part p) (all_of (map readable_part ps)) g).0))
+closed_starts (sums.Divide n d) g = starts_with _ _ (starts_with _ _ (starts_with _ _ (counted_starts n (and_parts (is_counted n) (is_literal d) g).0)))
 
 closed_item : (l : LinLine) → GoodSum l → (r : List ℕ) → ends r ≡ true → Item lin_form (a_sum l) (closed_text l ++ r) (skip r)
 unfolding lin_form
@@ -249,12 +249,12 @@ lines_laid = record { front = square_front; apart = λ y. refl; start = closed_s
 
 all_sums : (ls : List LinLine) → all_of (map readable_sum ls) ≡ true → AllGood GoodSum ls
 all_sums [] h = tt
-all_sums (l ∷ ls) h = let q = split_both (readable_sum l) (all_of (map readable_sum ls)) h in (q.0, all_sums ls q.1)
+all_sums (l ∷ ls) h = let q = and_parts (readable_sum l) (all_of (map readable_sum ls)) h in (q.0, all_sums ls q.1)
 
 pub lin_spelt : (l : LinLine) (ls : List LinLine) (r : List ℕ) → some_and_all (map readable_sum (l ∷ ls)) ≡ true → ends r ≡ true → Spelt lin (l ∷ ls) (skip (32 ∷ 91 ∷ (closed_text l ++ (listed (codes " [") (codes " [") (map closed_text ls) ++ r)))) (skip r)
 unfolding lin closed_lines
 lin_spelt l ls r g e =
-    let q = split_both (readable_sum l) (all_of (map readable_sum ls)) g in
+    let q = and_parts (readable_sum l) (all_of (map readable_sum ls)) g in
     let z = listed (codes " [") (codes " [") (map closed_text ls) ++ r in
     marked (codes "[") (λ k. many lin_form (codes "[") (λ gs. k (map lin_in gs))) (l ∷ ls) (square_front (closed_text l ++ z) (starts_with (closed_text l) z (closed_starts l q.0)))
     (spelt_as (unwrapped a_sum lin_in (l ∷ ls) (λ x. refl)) (mapped (many lin_form (codes "[")) (map lin_in) (map a_sum (l ∷ ls)) (list_spelt lin_form (codes "[") (codes " [") a_sum closed_text GoodSum lines_laid l ls q.0 (all_sums ls q.1) r e)))

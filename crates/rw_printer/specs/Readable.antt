@@ -1,5 +1,5 @@
 -- Which terms, formulas and certificates some text spells.
-use Rattle.std.specs.Prelude.{ℕ, suc, Bool, true, false, not, cond, leb, ltb, List, [], ◌∷◌, map, ℤ, pos, negsuc}
+use Rattle.std.specs.Prelude.{ℕ, suc, Bool, true, false, not, ◌&&◌, leb, ltb, List, [], ◌∷◌, map, ℤ, pos, negsuc}
 use Rattle.rw_terms.specs.declared.term.Term.{Term}
 use Rattle.rw_terms.specs.declared.term.Term.TheOpen.{Term-F}
 use Rattle.rw_terms.specs.declared.term.Term.TheFolds.{fold-Term}
@@ -7,6 +7,7 @@ use Rattle.rw_terms.specs.declared.term.Formula.{Formula}
 use Rattle.rw_terms.specs.declared.term.Formula.TheOpen.{Formula-F}
 use Rattle.rw_terms.specs.declared.term.Formula.TheFolds.{fold-Formula}
 use Rattle.rw_terms.specs.Names.{is_name}
+use Rattle.rw_terms.specs.AllOf.{all_of}
 use Rattle.rw_arith.specs.declared.line.Ref.{Ref}
 use Rattle.rw_arith.specs.declared.line.Ref.TheVariants as refs
 use Rattle.rw_arith.specs.declared.line.Part.{Part as SumPart}
@@ -16,15 +17,6 @@ use Rattle.rw_sequents.specs.declared.line.CertLine.{CertLine}
 use Rattle.rw_sequents.specs.declared.line.CertLine.TheVariants as lines
 use Rattle.rw_sequents.specs.declared.line.Cert.{Cert}
 use Rattle.rw_syntax.specs.Grammar.{number, initial, is_known, is_sort, is_upper}
-
--- both at once
-abbrev pub both : Bool → Bool → Bool
-both a b = cond a b false
-
--- each of them
-abbrev pub all_of : List Bool → Bool
-all_of [] = true
-all_of (b ∷ bs) = both b (all_of bs)
 
 -- each of them, and there is one
 abbrev pub some_and_all : List Bool → Bool
@@ -45,14 +37,14 @@ readable_term_step (Term-F.Init x) d = is_known [] (initial x)
 readable_term_step (Term-F.Const x) d = is_upper x
 readable_term_step (Term-F.Bound k) d = ltb k d
 readable_term_step (Term-F.Neg a) d = a d
-readable_term_step (Term-F.Add a b) d = both (a d) (b d)
-readable_term_step (Term-F.Sub a b) d = both (a d) (b d)
-readable_term_step (Term-F.Mul a b) d = both (a d) (b d)
-readable_term_step (Term-F.Div a b) d = both (a d) (b d)
-readable_term_step (Term-F.Mod a b) d = both (a d) (b d)
-readable_term_step (Term-F.Read a i) d = both (a d) (i d)
-readable_term_step (Term-F.Put a i e) d = both (a d) (both (i d) (e d))
-readable_term_step (Term-F.Fun f args) d = both (not (is_upper f)) (some_and_all (map (λ a. a d) args))
+readable_term_step (Term-F.Add a b) d = a d && b d
+readable_term_step (Term-F.Sub a b) d = a d && b d
+readable_term_step (Term-F.Mul a b) d = a d && b d
+readable_term_step (Term-F.Div a b) d = a d && b d
+readable_term_step (Term-F.Mod a b) d = a d && b d
+readable_term_step (Term-F.Read a i) d = a d && i d
+readable_term_step (Term-F.Put a i e) d = a d && (i d && e d)
+readable_term_step (Term-F.Fun f args) d = not (is_upper f) && some_and_all (map (λ a. a d) args)
 
 -- whether some text spells a term, behind so many binders
 abbrev pub readable_term : Term → ℕ → Bool
@@ -62,16 +54,16 @@ readable_term = fold-Term (ℕ → Bool) readable_term_step
 abbrev pub readable_step : Formula-F (ℕ → Bool) → ℕ → Bool
 readable_step Formula-F.True d = true
 readable_step Formula-F.False d = true
-readable_step (Formula-F.Eq s t) d = both (readable_term s d) (readable_term t d)
-readable_step (Formula-F.Less s t) d = both (readable_term s d) (readable_term t d)
-readable_step (Formula-F.AtMost s t) d = both (readable_term s d) (readable_term t d)
+readable_step (Formula-F.Eq s t) d = readable_term s d && readable_term t d
+readable_step (Formula-F.Less s t) d = readable_term s d && readable_term t d
+readable_step (Formula-F.AtMost s t) d = readable_term s d && readable_term t d
 readable_step (Formula-F.Not f) d = f d
-readable_step (Formula-F.And f g) d = both (f d) (g d)
-readable_step (Formula-F.Or f g) d = both (f d) (g d)
-readable_step (Formula-F.Imp f g) d = both (f d) (g d)
-readable_step (Formula-F.All s f) d = both (is_sort s) (f (suc d))
-readable_step (Formula-F.Any s f) d = both (is_sort s) (f (suc d))
-readable_step (Formula-F.App p args) d = both (is_upper p) (some_and_all (map (λ a. a d) (map readable_term args)))
+readable_step (Formula-F.And f g) d = f d && g d
+readable_step (Formula-F.Or f g) d = f d && g d
+readable_step (Formula-F.Imp f g) d = f d && g d
+readable_step (Formula-F.All s f) d = is_sort s && f (suc d)
+readable_step (Formula-F.Any s f) d = is_sort s && f (suc d)
+readable_step (Formula-F.App p args) d = is_upper p && some_and_all (map (λ a. a d) (map readable_term args))
 
 -- whether some text spells a formula, behind so many binders
 abbrev pub readable_formula : Formula → ℕ → Bool
@@ -85,14 +77,14 @@ named_term_step (Term-F.Init x) = is_name x
 named_term_step (Term-F.Const x) = is_name x
 named_term_step (Term-F.Bound k) = true
 named_term_step (Term-F.Neg a) = a
-named_term_step (Term-F.Add a b) = both a b
-named_term_step (Term-F.Sub a b) = both a b
-named_term_step (Term-F.Mul a b) = both a b
-named_term_step (Term-F.Div a b) = both a b
-named_term_step (Term-F.Mod a b) = both a b
-named_term_step (Term-F.Read a i) = both a i
-named_term_step (Term-F.Put a i e) = both a (both i e)
-named_term_step (Term-F.Fun f args) = both (is_name f) (all_of args)
+named_term_step (Term-F.Add a b) = a && b
+named_term_step (Term-F.Sub a b) = a && b
+named_term_step (Term-F.Mul a b) = a && b
+named_term_step (Term-F.Div a b) = a && b
+named_term_step (Term-F.Mod a b) = a && b
+named_term_step (Term-F.Read a i) = a && i
+named_term_step (Term-F.Put a i e) = a && (i && e)
+named_term_step (Term-F.Fun f args) = is_name f && all_of args
 
 -- whether each name of a term is one
 abbrev pub named_term : Term → Bool
@@ -106,16 +98,16 @@ named_terms ts = all_of (map named_term ts)
 abbrev pub named_step : Formula-F Bool → Bool
 named_step Formula-F.True = true
 named_step Formula-F.False = true
-named_step (Formula-F.Eq s t) = both (named_term s) (named_term t)
-named_step (Formula-F.Less s t) = both (named_term s) (named_term t)
-named_step (Formula-F.AtMost s t) = both (named_term s) (named_term t)
+named_step (Formula-F.Eq s t) = named_term s && named_term t
+named_step (Formula-F.Less s t) = named_term s && named_term t
+named_step (Formula-F.AtMost s t) = named_term s && named_term t
 named_step (Formula-F.Not f) = f
-named_step (Formula-F.And f g) = both f g
-named_step (Formula-F.Or f g) = both f g
-named_step (Formula-F.Imp f g) = both f g
+named_step (Formula-F.And f g) = f && g
+named_step (Formula-F.Or f g) = f && g
+named_step (Formula-F.Imp f g) = f && g
 named_step (Formula-F.All s f) = f
 named_step (Formula-F.Any s f) = f
-named_step (Formula-F.App p args) = both (is_name p) (named_terms args)
+named_step (Formula-F.App p args) = is_name p && named_terms args
 
 -- whether each name of a formula is one
 abbrev pub named_formula : Formula → Bool
@@ -136,12 +128,12 @@ readable_reference (refs.Right n) = is_counted n
 readable_reference (refs.Line n) = is_counted n
 
 abbrev pub readable_part : SumPart → Bool
-readable_part p = both (is_multiplier p.times) (readable_reference p.of)
+readable_part p = is_multiplier p.times && readable_reference p.of
 
 -- at least one part, or a number that is not negative
 abbrev pub readable_sum : LinLine → Bool
 readable_sum (sums.Sum ps) = some_and_all (map readable_part ps)
-readable_sum (sums.Divide n d) = both (is_counted n) (is_literal d)
+readable_sum (sums.Divide n d) = is_counted n && is_literal d
 
 -- terms that stand for themselves
 abbrev pub readable_terms : List Term → Bool
@@ -168,12 +160,12 @@ readable_line (lines.EqR n) = is_counted n
 readable_line (lines.Flip n) = is_counted n
 readable_line (lines.UnfoldL n) = is_counted n
 readable_line (lines.UnfoldR n) = is_counted n
-readable_line (lines.AllL n t) = both (is_counted n) (readable_term t 0)
-readable_line (lines.ExR n t) = both (is_counted n) (readable_term t 0)
-readable_line (lines.AllR n y) = both (is_counted n) (not (is_upper y))
-readable_line (lines.ExL n y) = both (is_counted n) (not (is_upper y))
-readable_line (lines.RwL i m) = both (is_counted i) (is_counted m)
-readable_line (lines.RwR i j) = both (is_counted i) (is_counted j)
+readable_line (lines.AllL n t) = is_counted n && readable_term t 0
+readable_line (lines.ExR n t) = is_counted n && readable_term t 0
+readable_line (lines.AllR n y) = is_counted n && not (is_upper y)
+readable_line (lines.ExL n y) = is_counted n && not (is_upper y)
+readable_line (lines.RwL i m) = is_counted i && is_counted m
+readable_line (lines.RwR i j) = is_counted i && is_counted j
 readable_line (lines.PutSame a i e) = readable_terms (a ∷ i ∷ e ∷ [])
 readable_line (lines.PutOther a i e j) = readable_terms (a ∷ i ∷ e ∷ j ∷ [])
 readable_line (lines.ArrExt a b) = readable_terms (a ∷ b ∷ [])
@@ -197,7 +189,7 @@ named_line (lines.PutSame a i e) = named_terms (a ∷ i ∷ e ∷ [])
 named_line (lines.PutOther a i e j) = named_terms (a ∷ i ∷ e ∷ j ∷ [])
 named_line (lines.ArrExt a b) = named_terms (a ∷ b ∷ [])
 named_line (lines.DivMod t u) = named_terms (t ∷ u ∷ [])
-named_line (lines.Lemma n ts) = both (is_name n) (named_terms ts)
+named_line (lines.Lemma n ts) = is_name n && named_terms ts
 named_line _ = true
 
 -- of a certificate

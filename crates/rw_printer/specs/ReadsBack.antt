@@ -9,8 +9,8 @@ use Rattle.rw_syntax.specs.Spelling.{AreWithin}
 use Rattle.rw_sequents.specs.declared.line.CertLine.{CertLine}
 use Rattle.rw_sequents.specs.declared.line.CertLine.TheVariants as lines
 use Rattle.rw_sequents.specs.declared.line.Cert.{Cert}
-use Rattle.rw_reader.specs.Expressions.{TextSpells}
-use Rattle.rw_reader.specs.Reading.{CertSpells}
+use Rattle.rw_tokens.specs.Expressions.{TextSpells}
+use Rattle.rw_forms.specs.Certificates.{CertSpells}
 use Rattle.rw_printer.specs.Trees.{term_tree, formula_tree}
 use Rattle.rw_printer.specs.Readable.{readable_term, readable_formula, readable_cert}
 

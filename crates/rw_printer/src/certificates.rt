@@ -1,11 +1,11 @@
 //! Writes certificates.
 
-ghost use Rattle.std.specs.Prelude.{◌≡◌, ◌++◌, [], ◌∷◌, map, OnOk, IsTrue, codes, decimal};
+ghost use Rattle.std.specs.Prelude.{◌≡◌, ◌++◌, [], ◌∷◌, map, OnOk, IsTrue, codes, decimal, ◌&&◌};
 ghost use Rattle.rw_terms.specs.Names.{is_name};
 ghost use Rattle.rw_terms.specs.Texts.{is_ascii};
 ghost use Rattle.rw_printer.specs.Layout.{printed_term, listed};
 ghost use Rattle.rw_printer.specs.Lines.{reference_text, part_text, parts_text, quotient_text, closed_text, lin_text, terms_text, numbered_text, instance_text, pair_text, line_text, cert_text};
-ghost use Rattle.rw_printer.specs.Readable.{both, named_term, named_terms, named_line, named_cert};
+ghost use Rattle.rw_printer.specs.Readable.{named_term, named_terms, named_line, named_cert};
 
 use crate::formulas::push_formula;
 use crate::pieces::push_word;
@@ -135,7 +135,7 @@ fn push_pair(text: &mut Text, word: &str, one: &Term, other: &Term) -> Result<()
 
 fn push_lemma(text: &mut Text, name: &Name, terms: &[Term]) -> Result<(), AllocError>
     ensures text { OnOk result (text.new ≡ text.old ++ codes "lemma " ++ name.now ++ codes "(" ++ terms_text terms.now ++ codes ")") }
-    ensures names { OnOk result (IsTrue (both (is_name name.now) (named_terms terms.now))) }
+    ensures names { OnOk result (IsTrue (is_name name.now && named_terms terms.now)) }
 {
     text.push_str("lemma ")?;
     push_word(text, name)?;

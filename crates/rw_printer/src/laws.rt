@@ -7,10 +7,10 @@ ghost use Rattle.rw_syntax.specs.declared.token.Token.{Token};
 ghost use Rattle.rw_syntax.specs.declared.frame.Part.TheVariants as parts;
 ghost use Rattle.rw_syntax.specs.Grammar.{Reads};
 ghost use Rattle.rw_sequents.specs.declared.line.Cert.{Cert};
-ghost use Rattle.rw_reader.specs.Tokens.{Token as LineToken};
-ghost use Rattle.rw_reader.specs.Forms.{a_cert};
-ghost use Rattle.rw_reader.specs.Certificates.{cert_form};
-ghost use Rattle.rw_reader.specs.Reading.{SpellsAs};
+ghost use Rattle.rw_tokens.specs.Tokens.{Token as LineToken};
+ghost use Rattle.rw_forms.specs.Forms.{a_cert};
+ghost use Rattle.rw_forms.specs.Certificates.{cert_form};
+ghost use Rattle.rw_forms.specs.Reading.{SpellsAs};
 ghost use Rattle.rw_printer.specs.Readable.{readable_term, readable_formula, readable_cert};
 
 /// Each term and each formula that some tokens spell, whatever their nest, is one whose text reads back.

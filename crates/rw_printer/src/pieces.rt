@@ -1,6 +1,6 @@
 //! The words and symbols of a text.
 
-ghost use Rattle.std.specs.Prelude.{◌≡◌, ◌++◌, OnOk, IsTrue, codes, decimal, suc};
+ghost use Rattle.std.specs.Prelude.{◌≡◌, ◌++◌, ◌-◌, OnOk, IsTrue, codes, decimal, suc};
 ghost use Rattle.rw_terms.specs.Names.{is_name};
 ghost use Rattle.rw_syntax.specs.declared.frame.Prefix.TheVariants as prefixes;
 ghost use Rattle.rw_syntax.specs.declared.frame.Binder.TheVariants as binders;
@@ -19,6 +19,14 @@ pub fn push_word(text: &mut Text, name: &Name) -> Result<(), AllocError>
 {
     let _word = name.bytes();
     text.push_name(name)
+}
+
+/// Writes the name of a binder, of which `k` stand between it and here, where there are so many.
+pub fn push_place(text: &mut Text, depth: u64, k: u32) -> Result<(), AllocError>
+    ensures { OnOk result (text.new ≡ text.old ++ codes "_" ++ decimal (depth - k)) }
+{
+    text.push_str("_")?;
+    text.push_number(depth.saturating_sub(k as u64))
 }
 
 /// Writes an operator with a space on each side.

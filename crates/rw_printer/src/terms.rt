@@ -1,14 +1,14 @@
 //! Writes terms.
 
-ghost use Rattle.std.specs.Prelude.{◌≡◌, ◌++◌, ℕ, [], map, OnOk, IsTrue, codes};
+ghost use Rattle.std.specs.Prelude.{◌≡◌, ◌++◌, ℕ, [], map, OnOk, IsTrue, codes, ◌&&◌};
 ghost use Rattle.rw_terms.specs.Names.{is_name};
 ghost use Rattle.rw_syntax.specs.Grammar.{left_of, right_of};
 ghost use Rattle.rw_printer.specs.Trees.{term_tree, argument_trees, application, wrap};
 ghost use Rattle.rw_printer.specs.Layout.{laid, listed, infix_text};
-ghost use Rattle.rw_printer.specs.Readable.{both, named_term, named_terms};
+ghost use Rattle.rw_printer.specs.Readable.{named_term, named_terms};
 
 use crate::levels::term_level;
-use crate::pieces::{push_infix, push_word};
+use crate::pieces::{push_infix, push_place, push_word};
 use rw_syntax::table::{fits, left_of, right_of};
 use rw_syntax::token::Infix;
 use rw_terms::name::Name;
@@ -43,10 +43,7 @@ pub fn push_term(text: &mut Text, depth: u64, term: &Term) -> Result<(), AllocEr
             push_word(text, x)?;
             text.push_str("0")
         }
-        Term::Bound(k) => {
-            text.push_str("_")?;
-            text.push_number(depth.saturating_sub(*k as u64))
-        }
+        Term::Bound(k) => push_place(text, depth, *k),
         Term::Neg(a) => {
             text.push_str("-")?;
             push_operand(text, depth, 8, a.get())
@@ -118,7 +115,7 @@ pub fn push_application(
     args: &[Term],
 ) -> Result<(), AllocError>
     ensures text { OnOk result (text.new ≡ text.old ++ laid (application name.now (argument_trees args.now depth))) }
-    ensures names { OnOk result (IsTrue (both (is_name name.now) (named_terms args.now))) }
+    ensures names { OnOk result (IsTrue (is_name name.now && named_terms args.now)) }
 {
     push_word(text, name)?;
     if args.is_empty() {

@@ -1,8 +1,8 @@
 -- What the reader's loop keeps, what it answers at its exits, and that these exclude one another.
 use Rattle.std.proofs.Common.{◌≡◌, ℕ, ◌+◌, ◌-◌, ◌≤◌, ◌<◌, ◌⊎◌, List, [], ◌∷◌, ◌++◌, length, drop, Option, Some, None, refl, sym, ap, ◌∙◌, subst, arith, append-nil, append_assoc, inl, inr, length-drop}
 use Rattle.std.proofs.lemmas.List.{drop_all}
-use Rattle.rw_reader.specs.declared.request.ReadError.{ReadError}
-use Rattle.rw_reader.specs.declared.request.ReadError.TheVariants as read_error
+use Rattle.rw_forms.specs.declared.request.ReadError.{ReadError}
+use Rattle.rw_forms.specs.declared.request.ReadError.TheVariants as read_error
 use Rattle.rw_syntax.specs.declared.token.Token.{Token as Class}
 use Rattle.rw_syntax.specs.declared.frame.Part.{Part}
 use Rattle.rw_syntax.specs.Grammar.{nests}
@@ -16,13 +16,15 @@ use Rattle.rw_syntax.proofs.TermsApart.{terms_only, formulas_only}
 use Rattle.rw_terms.specs.declared.term.Term.{Term}
 use Rattle.rw_terms.specs.declared.term.Formula.{Formula}
 use Rattle.rw_syntax.specs.declared.frame.Part.TheVariants as parts
-use Rattle.rw_reader.specs.Tokens.{Token, skip, front_token, token_at, LeadsTo}
-use Rattle.rw_reader.specs.Classes.{class_of, AreClasses}
-use Rattle.rw_reader.specs.Expressions.{TokensSpell, TokensGoOn, TextSpells, IsFaultOf}
+use Rattle.rw_tokens.specs.Tokens.{Token, skip, token_at, LeadsTo}
+use Rattle.rw_tokens.specs.Classes.{class_of, AreClasses}
+use Rattle.rw_tokens.specs.Expressions.{TokensSpell, TokensGoOn, TextSpells, IsFaultOf}
 use Rattle.rw_reader.specs.Turns.{Turns, RefusedAs, Refuses}
-use Rattle.rw_reader.proofs.Grammar.{some_is, take_less, take_within}
-use Rattle.rw_reader.proofs.Shorter.{shortens}
-use Rattle.rw_reader.proofs.Classes.{same_classes, one_class, last_class, front_classes}
+use Rattle.rw_syntax.proofs.Choices.{some_is}
+use Rattle.rw_forms.proofs.Grammar.{take_less, take_within}
+use Rattle.rw_tokens.proofs.Shorter.{shortens}
+use Rattle.rw_tokens.proofs.Aligned.{none_at_end, Either, longer, shorter, aligned}
+use Rattle.rw_tokens.proofs.Classes.{same_classes, one_class, last_class, front_classes}
 
 -- what was read up to a place
 pub record Read (goal : ℕ) (line left : List ℕ) (s : State) : Type 0 where
@@ -60,13 +62,6 @@ one_more goal line left s there s2 r t = record {
 pub ends_well : (goal : ℕ) (line left : List ℕ) (s : State) (v : Part) → goal ≤ 9 → Read goal line left s → left ≡ [] → finish_shut goal s ≡ Some v → TextSpells goal line v
 ends_well goal line left s v g r e f = (r.before, subst (LeadsTo (skip line) r.before) e r.leads, (r.classes, r.are, ends_spells 512 goal r.classes s v g r.runs (sym (finish_is goal s) ∙ f)))
 
-none_at_end : token_at [] ≡ None
-unfolding token_at front_token
-none_at_end = refl
-
-no_token_at_end : (bytes : List ℕ) (p : Token × List ℕ) → bytes ≡ [] → token_at bytes ≡ Some p → ⊥
-no_token_at_end bytes p e h = let k : None ≡ Some p = sym none_at_end ∙ ap token_at (sym e) ∙ h in absurd (cc)
-
 -- a text that ends too early
 pub ends_early : (goal : ℕ) (line left : List ℕ) (s : State) → goal ≤ 9 → Read goal line left s → left ≡ [] → finish_shut goal s ≡ None → IsFaultOf goal line (length line)
 ends_early goal line left s g r e f = record {
@@ -74,7 +69,7 @@ ends_early goal line left s g r e f = record {
   left = left;
   leads = r.leads;
   goes = (r.classes, r.are, runs_can 512 goal r.classes s g r.runs);
-  stuck = λ t behind h. absurd (no_token_at_end left (t, behind) e h);
+  stuck = λ t behind h. absurd (none_at_end left t behind e h);
   early = λ z v sp. no_value 512 goal r.classes s v g r.runs (sym (finish_is goal s) ∙ f) (subst (λ cs. Spells 512 goal cs v) (same_classes r.before sp.0 r.classes sp.1 r.are) sp.2);
   place = ap (λ x. length line + length x) e ∙ omega arith;
 }
@@ -119,29 +114,6 @@ end_fault goal line at s o e g h r f n k = inr (length line, k, ends_early goal 
 pub turn_falls : (goal : ℕ) (line : List ℕ) (at next : ℕ) (s s2 : State) → Turns 512 goal (drop at line) s (drop next line) s2 → length line - next < length line - at
 turn_falls goal line at next s s2 t = let a = shortens (drop at line) t.token (drop next line) t.stands in let b = length-drop at line in let c = length-drop next line in omega arith
 
--- one list of tokens begins the other
-record Aligned (before ts : List Token) (left end : List ℕ) : Type 0 where
-  more : List Token
-  is : ts ≡ before ++ more
-  leads : LeadsTo left more end
-
-aligned : (here : List ℕ) (before ts : List Token) (left end : List ℕ) → LeadsTo here before left → LeadsTo here ts end → length before ≤ length ts → Aligned before ts left end
-aligned here [] ts left end a b n = record { more = ts; is = refl; leads = subst (λ x. LeadsTo x ts end) a b }
-aligned here (t ∷ before) [] left end a b n = absurd (omega arith)
-aligned here (t ∷ before) (k ∷ ts) left end a b n =
-    let same = some_is (sym a.1 ∙ b.1) in
-    let r = aligned a.0 before ts left end a.2 (subst (λ x. LeadsTo x ts end) (sym (ap (λ p. p.1) same)) b.2) (omega arith) in
-    record { more = r.more; is = ap (λ x. k ∷ x) r.is ∙ ap (λ p. p.0 ∷ (before ++ r.more)) (sym same); leads = r.leads }
-
--- tokens that lead to the end are no fewer
-ends_last : (here : List ℕ) (before ts : List Token) (left : List ℕ) → LeadsTo here before left → LeadsTo here ts [] → length before ≤ length ts
-ends_last here [] ts left a b = omega arith
-ends_last here (t ∷ before) [] left a b = absurd (no_token_at_end here (t, a.0) b a.1)
-ends_last here (t ∷ before) (k ∷ ts) left a b =
-    let same = some_is (sym a.1 ∙ b.1) in
-    let r = ends_last a.0 before ts left a.2 (subst (λ x. LeadsTo x ts []) (sym (ap (λ p. p.1) same)) b.2) in
-    omega arith
-
 length_front : (a b : List Class) → length a ≤ length (a ++ b)
 length_front [] b = omega arith
 length_front (c ∷ a) b = let r = length_front a b in omega arith
@@ -166,17 +138,15 @@ not_both goal line o f v (k ∷ more) l sp = stuck_front goal line o f k more []
 
 -- a text that spells a value has no fault
 pub exclusive : (goal : ℕ) (line : List ℕ) (v : Part) (o : ℕ) → TextSpells goal line v → IsFaultOf goal line o → ⊥
-exclusive goal line v o t f =
-    let r = aligned (skip line) f.before t.0 f.left [] f.leads t.1 (ends_last (skip line) f.before t.0 f.left f.leads t.1) in
-    not_both goal line o f v r.more r.leads (subst (λ x. TokensSpell goal x v) r.is t.2)
+exclusive goal line v o s f = by_sides (aligned (skip line) f.before s.0 f.left [] f.leads s.1)
+  where
+    shorter_side : (more : List Token) → f.before ≡ s.0 ++ more → LeadsTo [] more f.left → ⊥
+    shorter_side [] i l = f.early (sym l) v (subst (λ z. TokensSpell goal z v) (sym (i ∙ append-nil s.0)) s.2)
+    shorter_side (k ∷ more) i l = none_at_end [] k l.0 refl l.1
 
-same_tokens : (here : List ℕ) (ts us : List Token) → LeadsTo here ts [] → LeadsTo here us [] → ts ≡ us
-same_tokens here [] [] a b = refl
-same_tokens here [] (u ∷ us) a b = absurd (no_token_at_end here (u, b.0) a b.1)
-same_tokens here (t ∷ ts) [] a b = absurd (no_token_at_end here (t, a.0) b a.1)
-same_tokens here (t ∷ ts) (u ∷ us) a b =
-    let same = some_is (sym a.1 ∙ b.1) in
-    ap (λ p. p.0 ∷ ts) same ∙ ap (λ l. u ∷ l) (same_tokens a.0 ts us a.2 (subst (λ x. LeadsTo x us []) (sym (ap (λ p. p.1) same)) b.2))
+    by_sides : Either f.before s.0 f.left [] → ⊥
+    by_sides (longer a) = not_both goal line o f v a.more a.leads (subst (λ z. TokensSpell goal z v) a.is s.2)
+    by_sides (shorter a) = shorter_side a.more a.is a.leads
 
 -- tokens have one value
 pub one_tokens_value : (goal : ℕ) (ts : List Token) (v w : Part) → goal ≤ 9 → TokensSpell goal ts v → TokensSpell goal ts w → v ≡ w
@@ -184,26 +154,27 @@ one_tokens_value goal ts v w g x y = one_value 512 goal x.0 v w g x.2 (subst (λ
 
 -- a text has one value
 pub one_text_value : (goal : ℕ) (line : List ℕ) (v w : Part) → goal ≤ 9 → TextSpells goal line v → TextSpells goal line w → v ≡ w
-one_text_value goal line v w g a b = one_tokens_value goal a.0 v w g a.2 (subst (λ l. TokensSpell goal l w) (same_tokens (skip line) b.0 a.0 b.1 a.1) b.2)
+one_text_value goal line v w g a b = by_sides (aligned (skip line) a.0 b.0 [] [] a.1 b.1)
+  where
+    same : (ts us more : List Token) (v w : Part) → us ≡ ts ++ more → LeadsTo [] more [] → TokensSpell goal ts v → TokensSpell goal us w → v ≡ w
+    same ts us [] v w i l x y = one_tokens_value goal ts v w g x (subst (λ z. TokensSpell goal z w) (i ∙ append-nil ts) y)
+    same ts us (k ∷ more) v w i l x y = absurd (none_at_end [] k l.0 refl l.1)
+
+    by_sides : Either a.0 b.0 [] [] → v ≡ w
+    by_sides (longer e) = same a.0 b.0 e.more v w e.is e.leads a.2 b.2
+    by_sides (shorter e) = sym (same b.0 a.0 e.more w v e.is e.leads b.2 a.2)
 
 same_place : (goal : ℕ) (line : List ℕ) (o p : ℕ) (f : IsFaultOf goal line o) (h : IsFaultOf goal line p) (more : List Token) → h.before ≡ f.before ++ more → LeadsTo f.left more h.left → o ≡ p
 same_place goal line o p f h [] e l = let n : length f.left ≡ length h.left = ap length l in let a = f.place in let b = h.place in omega arith
 same_place goal line o p f h (k ∷ more) e l = absurd (stuck_front goal line o f k more h.left l (subst (TokensGoOn goal) e h.goes))
 
--- the fault that has the fewer tokens before it
-first_fault : (goal : ℕ) (line : List ℕ) (o p : ℕ) (f : IsFaultOf goal line o) (h : IsFaultOf goal line p) → length f.before ≤ length h.before → o ≡ p
-first_fault goal line o p f h n = let r = aligned (skip line) f.before h.before f.left h.left f.leads h.leads n in same_place goal line o p f h r.more r.is r.leads
-
-either_way : (a b : ℕ) → (a ≤ b) ⊎ (b ≤ a)
-either_way a b = grind arith
-
 -- a text has one fault
 pub one_fault : (goal : ℕ) (line : List ℕ) (o p : ℕ) → IsFaultOf goal line o → IsFaultOf goal line p → o ≡ p
-one_fault goal line o p f h = go (either_way (length f.before) (length h.before))
+one_fault goal line o p f h = by_sides (aligned (skip line) f.before h.before f.left h.left f.leads h.leads)
   where
-    go : (length f.before ≤ length h.before) ⊎ (length h.before ≤ length f.before) → o ≡ p
-    go (inl n) = first_fault goal line o p f h n
-    go (inr n) = sym (first_fault goal line p o h f n)
+    by_sides : Either f.before h.before f.left h.left → o ≡ p
+    by_sides (longer a) = same_place goal line o p f h a.more a.is a.leads
+    by_sides (shorter a) = sym (same_place goal line p o h f a.more a.is a.leads)
 
 -- what is read as a term is no formula, and what is read as a formula no term
 pub no_formula : (line : List ℕ) (v : Part) (f : Formula) → v ≡ parts.Formula f → TextSpells 6 line v → ⊥

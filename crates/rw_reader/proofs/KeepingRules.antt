@@ -6,13 +6,13 @@ use Rattle.rw_arith.specs.declared.line.LinLine.{LinLine}
 use Rattle.rw_arith.specs.declared.line.LinLine.TheVariants as sums
 use Rattle.rw_sequents.specs.declared.line.CertLine.{CertLine}
 use Rattle.rw_sequents.specs.declared.line.CertLine.TheVariants as lines
-use Rattle.rw_reader.specs.Tokens.{Token, text}
-use Rattle.rw_reader.specs.Forms.{Given, a_line, a_sum, Form, gives, takes, either, a_number, more_of}
-use Rattle.rw_reader.specs.Phrases.{mark, term}
-use Rattle.rw_reader.specs.Certificates.{numbered, numbered_rules, later_rules, number_and_term, number_and_name, two_numbers, two_terms, put_same, put_other, axioms, instances, any_number, times, sum_part, part_form, part_in, sum_of, sum_or_quotient, lin_line, closed_line, closed_lines, lin_form, lin_in, lin, lemma, rule, line_form, line_in, cert}
-use Rattle.rw_reader.specs.Reading.{ends_value}
-use Rattle.rw_reader.proofs.Grammar.{starts, Keeps}
-use Rattle.rw_reader.proofs.Keeping.{mark_ends, comma_ends, semicolon_ends, formula_keeps, term_keeps, values_keep, closed_terms_keep}
+use Rattle.rw_tokens.specs.Tokens.{Token, text}
+use Rattle.rw_forms.specs.Forms.{Given, a_line, a_sum, Form, gives, takes, either, a_number, more_of}
+use Rattle.rw_forms.specs.Phrases.{mark, term}
+use Rattle.rw_forms.specs.Certificates.{numbered, numbered_rules, later_rules, number_and_term, number_and_name, two_numbers, two_terms, put_same, put_other, axioms, instances, any_number, times, sum_part, part_form, part_in, sum_of, sum_or_quotient, lin_line, closed_line, closed_lines, lin_form, lin_in, lin, lemma, rule, line_form, line_in, cert}
+use Rattle.rw_forms.specs.Reading.{ends_value}
+use Rattle.rw_forms.proofs.Grammar.{starts, Keeps}
+use Rattle.rw_forms.proofs.Keeping.{mark_ends, comma_ends, semicolon_ends, formula_keeps, term_keeps, values_keep, closed_terms_keep}
 
 -- what follows a part that ends with a value ends it
 abbrev Ends : {A : Type 0} → (Token → Bool) → (A → Form) → Type 0
@@ -24,7 +24,7 @@ All {A = A} P F k = (x : A) → Keeps P F (k x)
 numbered_by : (P : Given → Type 0) (F : Token → Bool) (k : CertLine → Form) → All P F k → (make : ℕ → CertLine) → Keeps P F (takes (a_number 0 4294967295) (λ n. k (make n)))
 numbered_by P F k h make = (refl, λ n. h (make n))
 
-later_keep : (P : Given → Type 0) (F : Token → Bool) (k : CertLine → Form) → All P F k → Keeps P F (later_rules (λ r. takes (a_number 0 4294967295) (λ n. k (Rattle.rw_reader.specs.Certificates.with_number r n))))
+later_keep : (P : Given → Type 0) (F : Token → Bool) (k : CertLine → Form) → All P F k → Keeps P F (later_rules (λ r. takes (a_number 0 4294967295) (λ n. k (Rattle.rw_forms.specs.Certificates.with_number r n))))
 unfolding later_rules
 later_keep P F k h =
     let n = numbered_by P F k h in
@@ -143,7 +143,7 @@ lin_keeps : (P : Given → Type 0) (F : Token → Bool) (k : List LinLine → Fo
 unfolding lin closed_lines
 lin_keeps P F k e h = (
   refl,
-  λ x. Rattle.rw_reader.proofs.Grammar.keeps_followed lin_form (λ g. more_of lin_form (codes "[") (g ∷ []) (λ gs. k (map lin_in gs))) (λ g. Unit {0}) P (λ t. true) F
+  λ x. Rattle.rw_forms.proofs.Grammar.keeps_followed lin_form (λ g. more_of lin_form (codes "[") (g ∷ []) (λ gs. k (map lin_in gs))) (λ g. Unit {0}) P (λ t. true) F
       (λ g t s. refl)
       (λ g. ((λ t. true), refl, (λ gs t z. refl), (λ gs. e (map lin_in gs)), lin_form_keeps, (λ gs. h (map lin_in gs)))) lin_form_keeps,
 )
@@ -181,7 +181,7 @@ rule_keeps P F k e s h = (
 )
 
 square_no_end : ends_value (text (codes "[")) ≡ false
-unfolding Rattle.rw_reader.specs.Classes.mark_texts Rattle.rw_reader.specs.Classes.text_class Rattle.rw_reader.specs.Classes.class_of
+unfolding Rattle.rw_tokens.specs.Classes.mark_texts Rattle.rw_tokens.specs.Classes.text_class Rattle.rw_tokens.specs.Classes.class_of
 square_no_end = refl
 
 cert_line_keeps : Keeps (λ g. Unit {0}) ends_value line_form

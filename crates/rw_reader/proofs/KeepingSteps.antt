@@ -10,14 +10,14 @@ use Rattle.rw_loops.specs.declared.step.LoopStep.{LoopStep}
 use Rattle.rw_loops.specs.declared.step.LoopStep.TheVariants as loops
 use Rattle.rw_nodes.specs.declared.edit.Step.{Step}
 use Rattle.rw_nodes.specs.declared.edit.Step.TheVariants as steps
-use Rattle.rw_reader.specs.Tokens.{Token, text}
-use Rattle.rw_reader.specs.Classes.{mark_texts, text_class, class_of}
-use Rattle.rw_reader.specs.Forms.{Given, Form}
-use Rattle.rw_reader.specs.Phrases.{mark, formula, terms, formulas}
+use Rattle.rw_tokens.specs.Tokens.{Token, text}
+use Rattle.rw_tokens.specs.Classes.{mark_texts, text_class, class_of}
+use Rattle.rw_forms.specs.Forms.{Given, Form}
+use Rattle.rw_forms.specs.Phrases.{mark, formula, terms, formulas}
 use Rattle.rw_reader.specs.Steps.{assignment, iteration, block, loop_step, constants_and_formula, pinned, constant_step, named_step, step}
-use Rattle.rw_reader.specs.Reading.{ends_value}
-use Rattle.rw_reader.proofs.Grammar.{starts, Keeps}
-use Rattle.rw_reader.proofs.Keeping.{mark_ends, semicolon_ends, sort_keeps, formula_keeps, term_keeps, names_keep, constants_keep, terms_keep, formulas_keep}
+use Rattle.rw_forms.specs.Reading.{ends_value}
+use Rattle.rw_forms.proofs.Grammar.{starts, Keeps}
+use Rattle.rw_forms.proofs.Keeping.{mark_ends, semicolon_ends, sort_keeps, formula_keeps, term_keeps, names_keep, constants_keep, terms_keep, formulas_keep}
 
 -- what follows a part that ends with a value ends it
 abbrev Ends : {A : Type 0} → (Token → Bool) → (A → Form) → Type 0
@@ -31,7 +31,7 @@ abbrev Without : {A : Type 0} → (Token → Bool) → Token → (A → Form) �
 Without {A = A} F t k = (x : A) → starts (k x) F t ≡ false
 
 bar_ends : ends_value (text (codes "|")) ≡ true
-unfolding mark_texts text_class class_of is_name is_reserved reserved Rattle.rw_reader.specs.Classes.name_class
+unfolding mark_texts text_class class_of is_name is_reserved reserved Rattle.rw_tokens.specs.Classes.name_class
 bar_ends = refl
 
 guards_keep : (P : Given → Type 0) (F : Token → Bool) (k : List Formula → Form) → Ends F k → Without F (text (codes "|")) k → All P F k → Keeps P F (formulas 511 (codes "|") k)

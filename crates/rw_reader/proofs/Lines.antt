@@ -1,145 +1,21 @@
 -- A line is read as a request exactly where its tokens spell it, and has the fault that is told exactly where it has
 -- it; so are certificates.
-use Rattle.std.proofs.Common.{◌≡◌, ℕ, ◌-◌, ◌≤◌, List, [], ◌∷◌, ◌++◌, length, Option, Some, None, refl, sym, ap, ◌∙◌, subst, arith, append-nil, append_assoc, length-drop, drop, ◌⊎◌, inl, inr}
-use Rattle.std.proofs.lemmas.List.{length-append}
-use Rattle.std.specs.Prelude.{option_map, ◌↔◌, Result, Ok, Err, IfOk, IfErr}
-use Rattle.rw_reader.specs.declared.request.Request.{Request}
-use Rattle.rw_reader.specs.Tokens.{Token, skip, token_at, front_token, with_next, LeadsTo}
-use Rattle.rw_reader.specs.declared.request.ReadError.{ReadError}
-use Rattle.rw_reader.specs.declared.request.ReadError.TheVariants.{Syntax, Memory}
+use Rattle.std.proofs.Common.{◌≡◌, ℕ, ◌-◌, List, length, refl, sym, ap, ◌∙◌, subst, arith, length-drop, drop, ◌⊎◌, inl, inr}
+use Rattle.std.specs.Prelude.{◌↔◌, Result, Ok, Err, IfOk, IfErr}
+use Rattle.rw_forms.specs.declared.request.Request.{Request}
+use Rattle.rw_forms.specs.declared.request.ReadError.{ReadError}
+use Rattle.rw_forms.specs.declared.request.ReadError.TheVariants.{Syntax, Memory}
 use Rattle.rw_sequents.specs.declared.line.Cert.{Cert}
-use Rattle.rw_reader.specs.Forms.{Given, a_request, a_cert, Form, IsOf}
-use Rattle.rw_reader.specs.Certificates.{cert_form}
+use Rattle.rw_tokens.specs.Tokens.{Token, skip}
+use Rattle.rw_forms.specs.Forms.{a_request, a_cert, Form}
+use Rattle.rw_forms.specs.Certificates.{cert_form, CertSpells, IsCertFault}
+use Rattle.rw_forms.specs.Progress.{StopsAt, Answers}
+use Rattle.rw_forms.specs.Reading.{SpellsAs, TextSpellsAs, Ending, whole, stops, read_form}
+use Rattle.rw_forms.proofs.Endings.{one}
+use Rattle.rw_forms.proofs.Texts.{nothing, exclusive, one_text, one_fault, spelled, faulty}
 use Rattle.rw_reader.specs.Requests.{request_form}
-use Rattle.rw_reader.specs.Progress.{StopsAt, Answers}
-use Rattle.rw_reader.specs.Reading.{SpellsAs, GoesOnAs, TextSpellsAs, IsFaultAs, Spells, LineSpells, IsFault, CertSpells, IsCertFault, Ending, whole, stops, read_form, Reading, reads, fault, asked, told, reading}
-use Rattle.rw_reader.proofs.Grammar.{some_is, Keeps}
-use Rattle.rw_reader.proofs.Requests.{IsRequest, IsCert, nothing, requests_keep, cert_form_keeps}
-use Rattle.rw_reader.proofs.Endings.{none_at_end, whole_as, stops_as, one}
-
--- one list of tokens begins the other
-record Aligned (before ts : List Token) (left end : List ℕ) : Type 0 where
-  more : List Token
-  is : ts ≡ before ++ more
-  leads : LeadsTo left more end
-
--- two readings of one text: one list begins the other
-data Either (before ts : List Token) (left end : List ℕ) : Type 0 where
-  longer : Aligned before ts left end → Either before ts left end
-  shorter : Aligned ts before end left → Either before ts left end
-
-grown : (t k : Token) (before ts : List Token) (left end : List ℕ) → t ≡ k → Either before ts left end → Either (t ∷ before) (k ∷ ts) left end
-grown t k before ts left end e (longer r) = longer (record { more = r.more; is = ap (λ x. k ∷ x) r.is ∙ ap (λ x. x ∷ (before ++ r.more)) (sym e); leads = r.leads })
-grown t k before ts left end e (shorter r) = shorter (record { more = r.more; is = ap (λ x. t ∷ x) r.is ∙ ap (λ x. x ∷ (ts ++ r.more)) e; leads = r.leads })
-
-aligned : (bytes : List ℕ) (before ts : List Token) (left end : List ℕ) → LeadsTo bytes before left → LeadsTo bytes ts end → Either before ts left end
-aligned bytes [] ts left end a b = longer (record { more = ts; is = refl; leads = subst (λ x. LeadsTo x ts end) a b })
-aligned bytes (t ∷ before) [] left end a b = shorter (record { more = t ∷ before; is = refl; leads = subst (λ x. LeadsTo x (t ∷ before) left) b a })
-aligned bytes (t ∷ before) (k ∷ ts) left end a b =
-    let same = some_is (sym a.1 ∙ b.1) in
-    grown t k before ts left end (ap (λ p. p.0) same) (aligned a.0 before ts left end a.2 (subst (λ x. LeadsTo x ts end) (sym (ap (λ p. p.1) same)) b.2))
-
--- what goes on from a fault's place
-goes_one_more : (f : Form) (before : List Token) (k : Token) (ks : List Token) → GoesOnAs f (before ++ k ∷ ks) → GoesOnAs f (before ++ k ∷ [])
-goes_one_more f before k ks c =
-    let a = length-append before (k ∷ ks) in
-    let b = length-append before (k ∷ []) in
-    let l = c.1 in
-    (c.0, omega arith, ks ++ c.2, c.3, subst (λ x. IsOf f c.0 x c.3) (append_assoc before (k ∷ ks) c.2 ∙ sym (append_assoc before (k ∷ []) (ks ++ c.2))) c.4)
-
--- a list of tokens that goes on past a fault
-past : (f : Form) (text : List ℕ) (o : ℕ) (x : IsFaultAs f text o) (k : Token) (more : List Token) (end : List ℕ) → LeadsTo x.left (k ∷ more) end → ¬ (GoesOnAs f (x.before ++ k ∷ more))
-past f text o x k more end l c = x.stuck k l.0 l.1 (goes_one_more f x.before k more c)
-
-spells_goes : (f : Form) (ts : List Token) (v : Given) → SpellsAs f ts v → GoesOnAs f ts
-spells_goes f ts v s = (length ts, omega arith, [], v, subst (λ x. IsOf f (length ts) x v) (sym (append-nil ts)) s)
-
-pub exclusive : (f : Form) (text : List ℕ) (v : Given) (o : ℕ) → TextSpellsAs f text v → IsFaultAs f text o → ⊥
-exclusive f text v o s x = by_sides (aligned (skip text) x.before s.0 x.left [] x.leads s.1)
-  where
-    longer_side : (more : List Token) → s.0 ≡ x.before ++ more → LeadsTo x.left more [] → ⊥
-    longer_side [] i l = x.early l v (subst (λ z. SpellsAs f z v) (i ∙ append-nil x.before) s.2)
-    longer_side (k ∷ more) i l = past f text o x k more [] l (subst (GoesOnAs f) i (spells_goes f s.0 v s.2))
-
-    shorter_side : (more : List Token) → x.before ≡ s.0 ++ more → LeadsTo [] more x.left → ⊥
-    shorter_side [] i l = x.early (sym l) v (subst (λ z. SpellsAs f z v) (sym (i ∙ append-nil s.0)) s.2)
-    shorter_side (k ∷ more) i l = none_at_end [] k l.0 refl l.1
-
-    by_sides : Either x.before s.0 x.left [] → ⊥
-    by_sides (longer a) = longer_side a.more a.is a.leads
-    by_sides (shorter a) = shorter_side a.more a.is a.leads
-
--- no text gives two values
-one_text : (P : Given → Type 0) (f : Form) → Keeps P nothing f → (text : List ℕ) (v w : Given) → TextSpellsAs f text v → TextSpellsAs f text w → v ≡ w
-one_text P f keeps text v w a b = by_sides (aligned (skip text) a.0 b.0 [] [] a.1 b.1)
-  where
-    same : (ts us more : List Token) (v w : Given) → us ≡ ts ++ more → LeadsTo [] more [] → SpellsAs f ts v → SpellsAs f us w → v ≡ w
-    same ts us [] v w i l x y = one P nothing ts f v w keeps x (subst (λ z. SpellsAs f z w) (i ∙ append-nil ts) y)
-    same ts us (k ∷ more) v w i l x y = absurd (none_at_end [] k l.0 refl l.1)
-
-    by_sides : Either a.0 b.0 [] [] → v ≡ w
-    by_sides (longer e) = same a.0 b.0 e.more v w e.is e.leads a.2 b.2
-    by_sides (shorter e) = sym (same b.0 a.0 e.more w v e.is e.leads b.2 a.2)
-
-pub one_fault : (f : Form) (text : List ℕ) (o p : ℕ) → IsFaultAs f text o → IsFaultAs f text p → o ≡ p
-one_fault f text o p x y = by_sides (aligned (skip text) x.before y.before x.left y.left x.leads y.leads)
-  where
-    places : x.left ≡ y.left → o ≡ p
-    places e = let l : length x.left ≡ length y.left = ap length e in omega (arith, x.place, y.place)
-
-    longer_side : (more : List Token) → y.before ≡ x.before ++ more → LeadsTo x.left more y.left → o ≡ p
-    longer_side [] i l = places l
-    longer_side (k ∷ more) i l = absurd (past f text o x k more y.left l (subst (GoesOnAs f) i y.goes))
-
-    shorter_side : (more : List Token) → x.before ≡ y.before ++ more → LeadsTo y.left more x.left → o ≡ p
-    shorter_side [] i l = places (sym l)
-    shorter_side (k ∷ more) i l = absurd (past f text p y k more x.left l (subst (GoesOnAs f) i x.goes))
-
-    by_sides : Either x.before y.before x.left y.left → o ≡ p
-    by_sides (longer e) = longer_side e.more e.is e.leads
-    by_sides (shorter e) = shorter_side e.more e.is e.leads
-
-token_left : (bytes : List ℕ) (t : Token) (behind : List ℕ) → token_at bytes ≡ Some (t, behind) → length behind ≤ length bytes
-unfolding token_at skip
-token_left bytes t behind e = go (front_token bytes) e
-  where
-    go : (o : Option (Token × ℕ)) → option_map (with_next bytes) o ≡ Some (t, behind) → length behind ≤ length bytes
-    go None e = absurd (cc)
-    go (Some p) e =
-        let is : skip (drop p.1 bytes) ≡ behind = ap (λ x. x.1) (some_is e) in
-        subst (λ l. length l ≤ length bytes) is (omega (arith, length-drop {A = ℕ}))
-
-left_least : (here : List ℕ) (ts : List Token) (there : List ℕ) → LeadsTo here ts there → length there ≤ length here
-left_least here [] there l = let e : length here ≡ length there = ap length l in omega arith
-left_least here (t ∷ ts) there l = let a = token_left here t l.0 l.1 in let b = left_least l.0 ts there l.2 in omega arith
-
-skip_least : (line : List ℕ) → length (skip line) ≤ length line
-unfolding skip
-skip_least line = omega (arith, length-drop {A = ℕ})
-
--- what the reading of a form says
-spelled : (P : Given → Type 0) (f : Form) → Keeps P nothing f → (text : List ℕ) (v : Given) → read_form f (skip text) ≡ whole v → P v × TextSpellsAs f text v
-unfolding read_form
-spelled P f keeps text v e = let x = whole_as P nothing (length (skip text)) f (skip text) v keeps e in (x.fine, (x.tokens, x.leads, x.is))
-
-faulty : (P : Given → Type 0) (f : Form) → Keeps P nothing f → (text left : List ℕ) → read_form f (skip text) ≡ stops left → IsFaultAs f text (length text - length left)
-unfolding read_form
-faulty P f keeps text left e =
-    let x = stops_as P nothing (length (skip text)) f (skip text) left keeps (omega arith) e in
-    let a = left_least (skip text) x.before left x.leads in
-    let b = skip_least text in
-    record {
-      before = x.before;
-      left = left;
-      leads = x.leads;
-      goes = (length x.before, omega arith, x.rest, x.value, x.goes);
-      stuck = λ t behind y c.
-          let l = length-append x.before (t ∷ []) in
-          let m = c.1 in
-          x.stuck t behind y c.0 c.2 c.3 (omega arith) (subst (λ z. IsOf f c.0 z c.3) (append_assoc x.before (t ∷ []) c.2) c.4);
-      early = λ y v s. x.early y (length x.before) v (omega arith) s;
-      place = omega arith;
-    }
+use Rattle.rw_reader.specs.Reading.{Spells, LineSpells, IsFault, Reading, reads, fault, asked, told, reading}
+use Rattle.rw_reader.proofs.Requests.{IsRequest, IsCert, requests_keep, cert_form_keeps}
 
 -- requests
 

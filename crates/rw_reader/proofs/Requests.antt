@@ -1,20 +1,20 @@
 -- The forms of requests keep their choices apart.
-use Rattle.std.proofs.Common.{◌≡◌, ℕ, Bool, false, List, refl, sym, true≢false}
+use Rattle.std.proofs.Common.{◌≡◌, ℕ, List, refl, sym, true≢false}
 use Rattle.std.specs.Prelude.{codes}
 use Rattle.rw_terms.specs.Named.{Named}
 use Rattle.rw_sequents.specs.declared.line.Cert.{Cert}
 use Rattle.rw_nodes.specs.declared.edit.Place.{Place}
 use Rattle.rw_nodes.specs.declared.edit.Edit.TheVariants as edits
-use Rattle.rw_reader.specs.declared.request.Request.{Request}
-use Rattle.rw_reader.specs.declared.request.Request.TheVariants as requests
-use Rattle.rw_reader.specs.Tokens.{Token}
-use Rattle.rw_reader.specs.Forms.{Given, a_request, a_cert, gives, takes, either, a_number}
-use Rattle.rw_reader.specs.Phrases.{mark, formula, place, right_side}
-use Rattle.rw_reader.specs.Certificates.{cert, cert_form}
+use Rattle.rw_forms.specs.declared.request.Request.{Request}
+use Rattle.rw_forms.specs.declared.request.Request.TheVariants as requests
+use Rattle.rw_forms.specs.Forms.{Given, a_request, a_cert, gives, takes, either, a_number}
+use Rattle.rw_forms.specs.Phrases.{mark, formula, place, right_side}
+use Rattle.rw_forms.specs.Certificates.{cert, cert_form}
 use Rattle.rw_reader.specs.Steps.{step, named_step, constant_step, loop_step}
 use Rattle.rw_reader.specs.Requests.{asks, var_form, root_form, step_form, prove_form, define_form, lemma_of, statement, lemma_form, drop_form, status_form, goal_form, request_form}
-use Rattle.rw_reader.proofs.Grammar.{Keeps}
-use Rattle.rw_reader.proofs.Keeping.{sort_keeps, formula_keeps, spec_keeps, kids_keep, place_keeps, left_side_keeps, right_side_keeps, closed_parameters_keep, some_parameters_keep}
+use Rattle.rw_forms.proofs.Grammar.{Keeps}
+use Rattle.rw_forms.proofs.Texts.{nothing}
+use Rattle.rw_forms.proofs.Keeping.{sort_keeps, formula_keeps, spec_keeps, kids_keep, place_keeps, left_side_keeps, right_side_keeps, closed_parameters_keep, some_parameters_keep}
 use Rattle.rw_reader.proofs.KeepingRules.{cert_keeps}
 use Rattle.rw_reader.proofs.KeepingSteps.{step_keeps}
 
@@ -23,10 +23,6 @@ IsRequest v = (r : Request) × (v ≡ a_request r)
 
 abbrev pub IsCert : Given → Type 0
 IsCert v = (c : Cert) × (v ≡ a_cert c)
-
--- nothing follows a request or a certificate
-abbrev pub nothing : Token → Bool
-nothing t = false
 
 var_keeps : Keeps IsRequest nothing var_form
 unfolding var_form

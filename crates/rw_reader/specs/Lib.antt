@@ -1,12 +1,4 @@
-pub mod Tokens
-pub mod Seen
-pub mod Forms
-pub mod Reading
-pub mod Progress
-pub mod Classes
-pub mod Expressions
 pub mod Turns
-pub mod Phrases
-pub mod Certificates
 pub mod Steps
 pub mod Requests
+pub mod Reading

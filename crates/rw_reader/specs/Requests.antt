@@ -6,11 +6,11 @@ use Rattle.rw_terms.specs.Naming.{names_of}
 use Rattle.rw_goals.specs.declared.library.Lemma.{Lemma}
 use Rattle.rw_citations.specs.Goal.{scope_of_parameters}
 use Rattle.rw_nodes.specs.declared.edit.Edit.TheVariants as edits
-use Rattle.rw_reader.specs.declared.request.Request.{Request}
-use Rattle.rw_reader.specs.declared.request.Request.TheVariants as requests
-use Rattle.rw_reader.specs.Forms.{a_variable, a_constant, any_name, a_number, a_request, Form, gives, takes, either}
-use Rattle.rw_reader.specs.Phrases.{mark, sort, formula, spec, kids, place, left_side, right_side, closed_parameters, some_parameters}
-use Rattle.rw_reader.specs.Certificates.{cert}
+use Rattle.rw_forms.specs.declared.request.Request.{Request}
+use Rattle.rw_forms.specs.declared.request.Request.TheVariants as requests
+use Rattle.rw_forms.specs.Forms.{a_variable, a_constant, any_name, a_number, a_request, Form, gives, takes, either}
+use Rattle.rw_forms.specs.Phrases.{mark, sort, formula, spec, kids, place, left_side, right_side, closed_parameters, some_parameters}
+use Rattle.rw_forms.specs.Certificates.{cert}
 use Rattle.rw_reader.specs.Steps.{step}
 
 -- a request and nothing behind it

@@ -7,8 +7,8 @@ use Rattle.rw_loops.specs.declared.step.LoopStep.{LoopStep}
 use Rattle.rw_loops.specs.declared.step.LoopStep.TheVariants as loops
 use Rattle.rw_nodes.specs.declared.edit.Step.{Step}
 use Rattle.rw_nodes.specs.declared.edit.Step.TheVariants as steps
-use Rattle.rw_reader.specs.Forms.{a_variable, a_constant, Form, takes, either}
-use Rattle.rw_reader.specs.Phrases.{mark, sort, formula, term, terms, formulas, names, constants}
+use Rattle.rw_forms.specs.Forms.{a_variable, a_constant, Form, takes, either}
+use Rattle.rw_forms.specs.Phrases.{mark, sort, formula, term, terms, formulas, names, constants}
 
 -- NAMES := TERMS
 unfoldable pub assignment : (List (List ℕ) × List Term → Form) → Form

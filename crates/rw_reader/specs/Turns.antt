@@ -3,8 +3,8 @@ use Rattle.std.specs.Prelude.{◌≡◌, ℕ, List, Option, Some, None}
 use Rattle.rw_syntax.specs.declared.token.Token.{Token as Class}
 use Rattle.rw_syntax.specs.declared.state.State.{State}
 use Rattle.rw_syntax.specs.Steps.{advance_shut}
-use Rattle.rw_reader.specs.Tokens.{Token, token_at}
-use Rattle.rw_reader.specs.Classes.{class_of}
+use Rattle.rw_tokens.specs.Tokens.{Token, token_at}
+use Rattle.rw_tokens.specs.Classes.{class_of}
 
 -- the token at a place is read
 pub record Turns (most goal : ℕ) (here : List ℕ) (s : State) (there : List ℕ) (s2 : State) : Type 0 where

@@ -2,12 +2,12 @@
 
 ghost use Rattle.std.specs.Prelude.{◌≡◌, ◌≤◌, pos};
 ghost use Rattle.rw_arith.specs.declared.line.LinLine.TheVariants as sums;
-ghost use Rattle.rw_reader.specs.Certificates.{signed, times, sum_part, sum_of, sum_or_quotient, lin_line, closed_line, closed_lines, lin};
-ghost use Rattle.rw_reader.specs.Progress.{IsPlace, Took};
+ghost use Rattle.rw_forms.specs.Certificates.{signed, times, sum_part, sum_of, sum_or_quotient, lin_line, closed_line, closed_lines, lin};
+ghost use Rattle.rw_forms.specs.Progress.{IsPlace, Took};
 
-use crate::request::ReadError;
-use crate::taking::{accept, any_number, expect, reference};
 use rw_arith::line::{LinLine, Part, Ref};
+use rw_forms::request::ReadError;
+use rw_forms::taking::{accept, any_number, expect, reference};
 use rw_items::Items;
 use std::alloc::Global;
 

@@ -1,37 +1,19 @@
 //! Certificates: lines with semicolons between them, each a rule and its arguments.
 
 ghost use Rattle.std.specs.Prelude.{◌≡◌, ◌≤◌};
-ghost use Rattle.rw_reader.specs.Certificates.{rule, lemma, instances, axioms, numbered, numbered_rules, later_rules, with_number, number_and_term, number_and_name, two_numbers, two_terms, put_same, put_other, cert};
-ghost use Rattle.rw_reader.specs.Progress.{IsPlace, Took};
+ghost use Rattle.rw_forms.specs.Certificates.{rule, lemma, instances, axioms, numbered, numbered_rules, later_rules, with_number, number_and_term, number_and_name, two_numbers, two_terms, put_same, put_other, cert};
+ghost use Rattle.rw_forms.specs.Progress.{IsPlace, Took};
 
 use crate::arithmetic::lin;
-use crate::request::ReadError;
-use crate::taking::{accept, any_name, expect, number, variable};
-use crate::value::{closed_terms, formula, term};
+use rw_forms::request::ReadError;
+use rw_forms::rule::FormulaRule;
+use rw_forms::taking::{accept, any_name, expect, number, variable};
+use rw_forms::value::{closed_terms, formula, term};
 use rw_items::{Boxed, Items};
 use rw_sequents::line::CertLine;
 use rw_terms::name::Name;
 use rw_terms::term::Term;
 use std::alloc::Global;
-
-/// A rule that names a formula by its number.
-#[derive(Clone, Copy, Debug, PartialEq, Eq)]
-pub enum FormulaRule {
-    DropL,
-    DropR,
-    NotL,
-    NotR,
-    AndL,
-    AndR,
-    OrL,
-    OrR,
-    ImpL,
-    ImpR,
-    EqR,
-    Flip,
-    UnfoldL,
-    UnfoldR,
-}
 
 /// Reads lines with semicolons between them.
 pub fn cert(alloc: Global, line: &[u8], at: &mut usize) -> Result<Items<CertLine>, ReadError>

@@ -3,30 +3,25 @@
 ghost use Rattle.std.specs.Prelude.{◌≡◌, ℕ, ◌+◌, ◌≤◌, ◌<◌, ◌^◌, ◌⊎◌, length, drop, IfOk, IfErr};
 ghost use Rattle.rw_syntax.specs.Machine.{nest};
 ghost use Rattle.rw_syntax.specs.declared.frame.Part.TheVariants as parts;
-ghost use Rattle.rw_reader.specs.Expressions.{TextSpells, IsFaultOf};
-ghost use Rattle.rw_reader.specs.Progress.{IsPlace};
+ghost use Rattle.rw_tokens.specs.Expressions.{TextSpells, IsFaultOf};
+ghost use Rattle.rw_forms.specs.Progress.{IsPlace};
 ghost use Rattle.rw_reader.specs.Turns.{Turns, Refuses};
-ghost use Rattle.rw_reader.specs.declared.request.ReadError.TheVariants as read_error;
+ghost use Rattle.rw_forms.specs.declared.request.ReadError.TheVariants as read_error;
 
-use crate::class::class_of;
-use crate::request::ReadError;
-use crate::taking::fault;
-use crate::token::{skip, token_at};
+use rw_forms::request::ReadError;
+use rw_forms::taking::fault;
+use rw_forms::value::{FORMULA, TERM};
 use rw_syntax::frame::Part;
 use rw_syntax::frames::Frames;
 use rw_syntax::state::State;
 use rw_syntax::step::{advance, finish};
 use rw_terms::term::{Formula, Term};
+use rw_tokens::class::class_of;
+use rw_tokens::token::{skip, token_at};
 use std::alloc::Global;
 
 /// The bound on the nest.
 const MOST: u64 = 512;
-
-/// The level of formulas in the grammar.
-const FORMULA: u8 = 1;
-
-/// The level of terms.
-const TERM: u8 = 6;
 
 // Reads one token, and gives the state behind it and the place of the next one.
 fn turn(

@@ -2,13 +2,15 @@
 
 ghost use Rattle.std.specs.Prelude.{◌≡◌, ℕ, ◌≤◌, List, ◌↔◌};
 ghost use Rattle.rw_syntax.specs.declared.frame.Part.{Part};
-ghost use Rattle.rw_reader.specs.declared.request.Request.{Request};
+ghost use Rattle.rw_forms.specs.declared.request.Request.{Request};
 ghost use Rattle.rw_sequents.specs.declared.line.Cert.{Cert};
-ghost use Rattle.rw_reader.specs.Forms.{a_cert};
-ghost use Rattle.rw_reader.specs.Certificates.{cert_form};
-ghost use Rattle.rw_reader.specs.Tokens.{Token};
-ghost use Rattle.rw_reader.specs.Expressions.{TokensSpell, TextSpells, IsFaultOf};
-ghost use Rattle.rw_reader.specs.Reading.{SpellsAs, Spells, LineSpells, IsFault, CertSpells, IsCertFault, reading, reads, fault};
+ghost use Rattle.rw_forms.specs.Forms.{a_cert};
+ghost use Rattle.rw_forms.specs.Certificates.{cert_form};
+ghost use Rattle.rw_tokens.specs.Tokens.{Token};
+ghost use Rattle.rw_tokens.specs.Expressions.{TokensSpell, TextSpells, IsFaultOf};
+ghost use Rattle.rw_forms.specs.Reading.{SpellsAs};
+ghost use Rattle.rw_reader.specs.Reading.{Spells, LineSpells, IsFault, reading, reads, fault};
+ghost use Rattle.rw_forms.specs.Certificates.{CertSpells, IsCertFault};
 
 /// A line is read as a request exactly where its tokens spell it, and else has its one fault.
 pub fn reading_is_the_grammar()

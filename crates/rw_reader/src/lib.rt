@@ -2,18 +2,12 @@
 #![tactic(auto)]
 
 mod arithmetic;
-pub mod certificate;
-mod class;
+mod certificate;
 mod expression;
 pub mod laws;
 mod reading;
-mod reference;
-pub mod request;
 mod step;
 mod table;
-mod taking;
-pub mod token;
-mod value;
 
 pub use expression::{read_formula, read_term};
 pub use reading::{read_cert, read_request};

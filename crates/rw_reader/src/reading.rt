@@ -2,21 +2,22 @@
 
 ghost use Rattle.std.specs.Prelude.{◌≡◌, ℕ, ◌<◌, ◌^◌, ◌⊎◌, length, IfOk, IfErr};
 ghost use Rattle.rw_reader.specs.Requests.{var_form, root_form, step_form, prove_form, status_form, goal_form};
-ghost use Rattle.rw_reader.specs.Reading.{reading, reads, fault, CertSpells, IsCertFault};
-ghost use Rattle.rw_reader.specs.Progress.{IsPlace, Answers};
-ghost use Rattle.rw_reader.specs.declared.request.ReadError.TheVariants as read_error;
+ghost use Rattle.rw_reader.specs.Reading.{reading, reads, fault};
+ghost use Rattle.rw_forms.specs.Certificates.{CertSpells, IsCertFault};
+ghost use Rattle.rw_forms.specs.Progress.{IsPlace, Answers};
+ghost use Rattle.rw_forms.specs.declared.request.ReadError.TheVariants as read_error;
 
 use crate::certificate::cert;
-use crate::request::{ReadError, Request};
 use crate::step::step;
 use crate::table::{read_define, read_drop, read_lemma};
-use crate::taking::{accept, any_name, end, expect, kids, number, place, sort, variable};
-use crate::token::skip;
-use crate::value::spec;
+use rw_forms::request::{ReadError, Request};
+use rw_forms::taking::{accept, any_name, end, expect, kids, number, place, sort, variable};
+use rw_forms::value::spec;
 use rw_items::Boxed;
 use rw_nodes::edit::Edit;
 use rw_programs::prog::Param;
 use rw_sequents::line::Cert;
+use rw_tokens::token::skip;
 use std::alloc::Global;
 
 /// Reads a line as a request. Its tokens spell that request; else the fault is told, where its tokens cannot go on.

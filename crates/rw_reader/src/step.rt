@@ -2,11 +2,11 @@
 
 ghost use Rattle.std.specs.Prelude.{◌≡◌};
 ghost use Rattle.rw_reader.specs.Steps.{step, named_step, constant_step, loop_step, constants_and_formula, pinned, block, iteration, assignment};
-ghost use Rattle.rw_reader.specs.Progress.{IsPlace, Took};
+ghost use Rattle.rw_forms.specs.Progress.{IsPlace, Took};
 
-use crate::request::ReadError;
-use crate::taking::{accept, constant, constants, expect, names, sort, variable};
-use crate::value::{formula, formulas, term, terms};
+use rw_forms::request::ReadError;
+use rw_forms::taking::{accept, constant, constants, expect, names, sort, variable};
+use rw_forms::value::{formula, formulas, term, terms};
 use rw_items::Items;
 use rw_laws::step::BasicStep;
 use rw_loops::step::LoopStep;

@@ -3,9 +3,10 @@ use Rattle.std.specs.Prelude.{codes}
 use denote.Text.{Utf8}
 use denote.Shadow.{shadow}
 use Rattle.rw_terms.specs.Texts.{is_ascii}
+use Rattle.rw_terms.specs.AllOf.{all_of}
 use Rattle.rw_printer.specs.Layout.{listed}
 use Rattle.rw_printer.specs.Lines.{line_text}
-use Rattle.rw_printer.specs.Readable.{all_of, named_line}
+use Rattle.rw_printer.specs.Readable.{named_line}
 use Rattle.rw_printer.proofs.certificates.push_cert.Given as goal
 
 -- the text with the lines that are left

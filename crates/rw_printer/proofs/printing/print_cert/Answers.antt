@@ -1,5 +1,5 @@
 use Rattle.std.proofs.Common.{◌++◌, sym, ap, ◌∙◌, subst}
-use Rattle.rw_reader.specs.Reading.{CertSpells}
+use Rattle.rw_forms.specs.Certificates.{CertSpells}
 use Rattle.rw_printer.specs.Lines.{cert_text}
 use Rattle.rw_printer.proofs.SpeltLines.{cert_reads_back}
 use Rattle.rw_printer.proofs.printing.print_cert.Goals as goal

@@ -1,6 +1,6 @@
 use Rattle.std.proofs.Common.{◌++◌, sym, ap, ◌∙◌, subst}
 use Rattle.rw_syntax.specs.declared.frame.Part.TheVariants as parts
-use Rattle.rw_reader.specs.Expressions.{TextSpells}
+use Rattle.rw_tokens.specs.Expressions.{TextSpells}
 use Rattle.rw_printer.specs.Layout.{printed_formula}
 use Rattle.rw_printer.proofs.ReadsBack.{formula_reads_back}
 use Rattle.rw_printer.proofs.printing.print_formula.Goals as goal

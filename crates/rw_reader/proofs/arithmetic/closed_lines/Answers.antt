@@ -1,10 +1,10 @@
 use Rattle.std.proofs.Common.{◌∙◌, ◌++◌, [], ◌∷◌, arith, refl, sym, ap, subst}
 use Rattle.std.specs.Prelude.{codes}
 use Rattle.std.proofs.lemmas.Result.{err_from_is_err_and}
-use Rattle.rw_reader.specs.Forms.{many, a_sum}
-use Rattle.rw_reader.specs.Certificates.{closed_line, closed_lines, lin_form, lin_in}
-use Rattle.rw_reader.proofs.ListItems.{sum_item}
-use Rattle.rw_reader.proofs.Listing.{Listed, first_item, first_fault, next_item, item_fault, last_item}
+use Rattle.rw_forms.specs.Forms.{many, a_sum}
+use Rattle.rw_forms.specs.Certificates.{closed_line, closed_lines, lin_form, lin_in}
+use Rattle.rw_reader.proofs.RuleItems.{sum_item}
+use Rattle.rw_forms.proofs.Listing.{Listed, first_item, first_fault, next_item, item_fault, last_item}
 use Rattle.rw_reader.proofs.arithmetic.closed_lines.Goals as goal
 
 pub returns-in_err-first-clause-took : goal.returns-in_err-first-clause-took

@@ -1,9 +1,9 @@
 use Rattle.std.proofs.Common.{◌-◌, ◌≤◌, length}
 use Rattle.std.specs.Prelude.{codes}
-use Rattle.rw_reader.specs.Forms.{a_sum}
-use Rattle.rw_reader.specs.Certificates.{lin_form, lin_in}
-use Rattle.rw_reader.specs.Progress.{IsPlace}
-use Rattle.rw_reader.proofs.Listing.{Listed}
+use Rattle.rw_forms.specs.Forms.{a_sum}
+use Rattle.rw_forms.specs.Certificates.{lin_form, lin_in}
+use Rattle.rw_forms.specs.Progress.{IsPlace}
+use Rattle.rw_forms.proofs.Listing.{Listed}
 use Rattle.rw_reader.proofs.arithmetic.closed_lines.Given as goal
 
 abbrev pub invariant-lines : goal.invariant-lines

@@ -1,7 +1,7 @@
 use Rattle.std.proofs.Common.{arith}
 use Rattle.std.proofs.lemmas.Result.{err_from_is_err_and}
-use Rattle.rw_reader.specs.Certificates.{lin}
-use Rattle.rw_reader.proofs.Parts.{passed_on}
+use Rattle.rw_forms.specs.Certificates.{lin}
+use Rattle.rw_forms.proofs.Parts.{passed_on}
 use Rattle.rw_reader.proofs.arithmetic.lin.Goals as goal
 
 pub returns-in_err-expect-clause-took : goal.returns-in_err-expect-clause-took

@@ -2,10 +2,11 @@ use Rattle.std.proofs.Common.{◌∙◌, ◌++◌, [], ◌∷◌, arith, refl, s
 use Rattle.std.specs.Prelude.{codes}
 use Rattle.std.proofs.lemmas.Result.{err_from_is_err_and}
 use Rattle.rw_arith.specs.declared.line.LinLine.TheVariants as sums
-use Rattle.rw_reader.specs.Forms.{a_part}
-use Rattle.rw_reader.specs.Certificates.{sum_of, sum_part, part_form, part_in}
-use Rattle.rw_reader.proofs.ListItems.{part_item}
-use Rattle.rw_reader.proofs.Listing.{Grown, begun, next_item, item_fault, last_item}
+use Rattle.rw_forms.specs.Forms.{a_part}
+use Rattle.rw_forms.specs.Certificates.{sum_of, sum_part, part_form, part_in}
+use Rattle.rw_reader.proofs.RuleItems.{part_item}
+use Rattle.rw_forms.proofs.Listing.{Grown, next_item, item_fault, last_item}
+use Rattle.rw_reader.proofs.RuleItems.{begun}
 use Rattle.rw_reader.proofs.arithmetic.sum.Goals as goal
 
 pub returns-in_err-first-clause-took : goal.returns-in_err-first-clause-took

@@ -1,9 +1,10 @@
 use Rattle.std.proofs.Common.{◌-◌, ◌≤◌, length}
 use Rattle.std.specs.Prelude.{codes}
-use Rattle.rw_reader.specs.Forms.{a_part}
-use Rattle.rw_reader.specs.Certificates.{part_form, part_in}
-use Rattle.rw_reader.specs.Progress.{IsPlace}
-use Rattle.rw_reader.proofs.Listing.{Grown, begun}
+use Rattle.rw_forms.specs.Forms.{a_part}
+use Rattle.rw_forms.specs.Certificates.{part_form, part_in}
+use Rattle.rw_forms.specs.Progress.{IsPlace}
+use Rattle.rw_forms.proofs.Listing.{Grown}
+use Rattle.rw_reader.proofs.RuleItems.{begun}
 use Rattle.rw_reader.proofs.arithmetic.sum.Given as goal
 
 abbrev pub invariant-parts : goal.invariant-parts

@@ -1,6 +1,6 @@
 use Rattle.std.proofs.Common.{◌∙◌, arith, sym, drop}
 use Rattle.std.proofs.lemmas.Result.{err_from_is_err_and}
-use Rattle.rw_reader.proofs.Parts.{carried, passed_on, told_as}
+use Rattle.rw_forms.proofs.Parts.{carried, passed_on, told_as}
 use Rattle.rw_reader.proofs.Choosing.{great_sum, small_sum}
 use Rattle.rw_reader.proofs.arithmetic.sum_or_quotient.Goals as goal
 

@@ -1,7 +1,7 @@
 use Rattle.std.proofs.Common.{◌∙◌, arith, sym}
 use Rattle.std.proofs.lemmas.Result.{err_from_is_err_and}
-use Rattle.rw_reader.specs.Certificates.{times}
-use Rattle.rw_reader.proofs.Parts.{carried, told_as}
+use Rattle.rw_forms.specs.Certificates.{times}
+use Rattle.rw_forms.proofs.Parts.{carried, told_as}
 use Rattle.rw_reader.proofs.arithmetic.times.Goals as goal
 
 pub returns-in_err-expect-clause-took : goal.returns-in_err-expect-clause-took

@@ -1,10 +1,10 @@
 use Rattle.std.proofs.Common.{◌∙◌, ◌++◌, [], ◌∷◌, arith, refl, sym, ap, subst}
 use Rattle.std.specs.Prelude.{codes}
 use Rattle.std.proofs.lemmas.Result.{err_from_is_err_and}
-use Rattle.rw_reader.specs.Certificates.{cert, line_form, line_in, rule}
-use Rattle.rw_reader.specs.Forms.{many, a_line}
-use Rattle.rw_reader.proofs.ListItems.{line_item}
-use Rattle.rw_reader.proofs.Listing.{Listed, first_item, first_fault, next_item, item_fault, last_item}
+use Rattle.rw_forms.specs.Certificates.{cert, line_form, line_in, rule}
+use Rattle.rw_forms.specs.Forms.{many, a_line}
+use Rattle.rw_reader.proofs.RuleItems.{line_item}
+use Rattle.rw_forms.proofs.Listing.{Listed, first_item, first_fault, next_item, item_fault, last_item}
 use Rattle.rw_reader.proofs.certificate.cert.Goals as goal
 
 pub returns-in_err-first : goal.returns-in_err-first

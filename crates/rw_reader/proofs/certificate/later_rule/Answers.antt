@@ -1,7 +1,7 @@
 use Rattle.std.proofs.Common.{◌∙◌, arith}
 use Rattle.std.proofs.lemmas.Result.{err_from_is_err_and}
-use Rattle.rw_reader.specs.Certificates.{later_rules}
-use Rattle.rw_reader.proofs.Parts.{carried}
+use Rattle.rw_forms.specs.Certificates.{later_rules}
+use Rattle.rw_forms.proofs.Parts.{carried}
 use Rattle.rw_reader.proofs.certificate.later_rule.Goals as goal
 
 pub returns-then-accept-clause-took : goal.returns-then-accept-clause-took

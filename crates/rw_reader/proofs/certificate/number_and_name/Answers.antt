@@ -1,7 +1,7 @@
 use Rattle.std.proofs.Common.{◌∙◌, arith}
 use Rattle.std.proofs.lemmas.Result.{err_from_is_err_and}
-use Rattle.rw_reader.specs.Certificates.{number_and_name}
-use Rattle.rw_reader.proofs.Parts.{carried}
+use Rattle.rw_forms.specs.Certificates.{number_and_name}
+use Rattle.rw_forms.proofs.Parts.{carried}
 use Rattle.rw_reader.proofs.certificate.number_and_name.Goals as goal
 
 pub returns-in_err-number-clause-took : goal.returns-in_err-number-clause-took

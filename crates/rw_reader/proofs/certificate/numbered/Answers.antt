@@ -1,7 +1,7 @@
 use Rattle.std.proofs.Common.{◌∙◌, arith, sym}
 use Rattle.std.proofs.lemmas.Result.{err_from_is_err_and}
-use Rattle.rw_reader.specs.Certificates.{numbered}
-use Rattle.rw_reader.proofs.Parts.{carried, told_as}
+use Rattle.rw_forms.specs.Certificates.{numbered}
+use Rattle.rw_forms.proofs.Parts.{carried, told_as}
 use Rattle.rw_reader.proofs.certificate.numbered.Goals as goal
 
 pub returns-in_err-rule-clause-took : goal.returns-in_err-rule-clause-took

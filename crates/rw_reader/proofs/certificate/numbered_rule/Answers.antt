@@ -1,6 +1,6 @@
 use Rattle.std.proofs.Common.{◌∙◌, arith}
-use Rattle.rw_reader.specs.Certificates.{numbered_rules}
-use Rattle.rw_reader.proofs.Parts.{passed_on}
+use Rattle.rw_forms.specs.Certificates.{numbered_rules}
+use Rattle.rw_forms.proofs.Parts.{passed_on}
 use Rattle.rw_reader.proofs.certificate.numbered_rule.Goals as goal
 
 pub returns-then-accept-clause-took : goal.returns-then-accept-clause-took

@@ -1,7 +1,7 @@
 use Rattle.std.proofs.Common.{◌∙◌, arith, sym, ap}
 use Rattle.std.proofs.lemmas.Result.{err_from_is_err_and}
-use Rattle.rw_reader.specs.Certificates.{rule}
-use Rattle.rw_reader.proofs.Parts.{carried, passed_on, told_as}
+use Rattle.rw_forms.specs.Certificates.{rule}
+use Rattle.rw_forms.proofs.Parts.{carried, passed_on, told_as}
 use Rattle.rw_sequents.specs.declared.line.CertLine.TheVariants as lines
 use Rattle.rw_reader.proofs.certificate.rule.Goals as goal
 

@@ -1,7 +1,7 @@
 use Rattle.std.proofs.Common.{◌∙◌, arith}
 use Rattle.std.proofs.lemmas.Result.{err_from_is_err_and}
-use Rattle.rw_reader.specs.Certificates.{two_numbers}
-use Rattle.rw_reader.proofs.Parts.{carried}
+use Rattle.rw_forms.specs.Certificates.{two_numbers}
+use Rattle.rw_forms.proofs.Parts.{carried}
 use Rattle.rw_reader.proofs.certificate.two_numbers.Goals as goal
 
 pub returns-in_err-first-clause-took : goal.returns-in_err-first-clause-took

@@ -1,6 +1,6 @@
 use Rattle.std.proofs.Common.{◌≤◌, ◌-◌, drop, length}
 use Rattle.rw_syntax.specs.Machine.{nest}
-use Rattle.rw_reader.specs.Progress.{IsPlace}
+use Rattle.rw_forms.specs.Progress.{IsPlace}
 use Rattle.rw_reader.proofs.Expressions.{Read}
 use Rattle.rw_reader.proofs.expression.read.Given as goal
 

@@ -1,6 +1,7 @@
-use Rattle.rw_reader.specs.Forms.{a_cert}
-use Rattle.rw_reader.specs.Certificates.{cert_form}
-use Rattle.rw_reader.proofs.Lines.{exclusive, one_fault, one_cert, one_cert_text}
+use Rattle.rw_forms.specs.Forms.{a_cert}
+use Rattle.rw_forms.specs.Certificates.{cert_form}
+use Rattle.rw_forms.proofs.Texts.{exclusive, one_fault}
+use Rattle.rw_reader.proofs.Lines.{one_cert, one_cert_text}
 use Rattle.rw_reader.proofs.laws.one_cert.Goals as goal
 
 pub returns : goal.returns

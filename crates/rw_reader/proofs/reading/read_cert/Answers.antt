@@ -1,7 +1,7 @@
 use Rattle.std.proofs.Common.{◌∙◌}
 use Rattle.std.proofs.lemmas.Result.{err_from_is_err_and}
-use Rattle.rw_reader.specs.Certificates.{cert_form}
-use Rattle.rw_reader.proofs.Parts.{carried}
+use Rattle.rw_forms.specs.Certificates.{cert_form}
+use Rattle.rw_forms.proofs.Parts.{carried}
 use Rattle.rw_reader.proofs.Lines.{cert_ok, cert_err}
 use Rattle.rw_reader.proofs.reading.read_cert.Goals as goal
 

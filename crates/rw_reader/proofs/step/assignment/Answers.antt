@@ -1,7 +1,7 @@
 use Rattle.std.proofs.Common.{◌∙◌}
 use Rattle.std.proofs.lemmas.Result.{err_from_is_err_and}
 use Rattle.rw_reader.specs.Steps.{assignment}
-use Rattle.rw_reader.proofs.Parts.{carried}
+use Rattle.rw_forms.proofs.Parts.{carried}
 use Rattle.rw_reader.proofs.step.assignment.Goals as goal
 
 pub returns-in_err-names : goal.returns-in_err-names

@@ -1,7 +1,7 @@
 use Rattle.std.proofs.Common.{◌∙◌}
 use Rattle.std.proofs.lemmas.Result.{err_from_is_err_and}
 use Rattle.rw_reader.specs.Steps.{constant_step}
-use Rattle.rw_reader.proofs.Parts.{carried}
+use Rattle.rw_forms.proofs.Parts.{carried}
 use Rattle.rw_reader.proofs.step.constant_step.Goals as goal
 
 pub returns-in_err-step : goal.returns-in_err-step

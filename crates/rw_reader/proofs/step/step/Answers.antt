@@ -1,7 +1,7 @@
 use Rattle.std.proofs.Common.{◌∙◌, sym, ap}
 use Rattle.std.proofs.lemmas.Result.{err_from_is_err_and}
 use Rattle.rw_reader.specs.Steps.{step}
-use Rattle.rw_reader.proofs.Parts.{carried, passed_on, told_as}
+use Rattle.rw_forms.proofs.Parts.{carried, passed_on, told_as}
 use Rattle.rw_laws.specs.declared.step.BasicStep.TheVariants as basic
 use Rattle.rw_nodes.specs.declared.edit.Step.TheVariants as steps
 use Rattle.rw_reader.proofs.step.step.Goals as goal

@@ -1,7 +1,7 @@
 use Rattle.std.proofs.Common.{◌∙◌}
 use Rattle.std.proofs.lemmas.Result.{err_from_is_err_and}
 use Rattle.rw_reader.specs.Requests.{define_form}
-use Rattle.rw_reader.proofs.Parts.{carried}
+use Rattle.rw_forms.proofs.Parts.{carried}
 use Rattle.rw_reader.proofs.Made.{made_definition}
 use Rattle.rw_reader.proofs.table.read_define.Goals as goal
 

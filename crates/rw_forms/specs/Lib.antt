@@ -1,0 +1,5 @@
+pub mod Forms
+pub mod Reading
+pub mod Progress
+pub mod Phrases
+pub mod Certificates

@@ -1,0 +1,4 @@
+pub mod Tokens
+pub mod Seen
+pub mod Classes
+pub mod Expressions
