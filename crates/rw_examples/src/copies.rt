@@ -1,13 +1,17 @@
 //! Copies on their happy path; those of programs, terms and tables stand with the other tests of these.
 
+use rw_anew::status::{LemmaMark, Need, NeedState, NodeMark, Status, Statuses};
 use rw_arith::line::LinLine;
 use rw_arith::poly::Summand;
 use rw_goals::library::{Definition, Item, Library};
 use rw_items::Items;
 use rw_laws::step::BasicStep;
-use rw_nodes::edit::{Path, Place, Step, TreeName, counts};
+use rw_nodes::edit::{Edit, Path, Place, Step, TreeName, counts, place_at};
+use rw_nodes::node::Node;
+use rw_nodes::parts::Parts;
 use rw_programs::applied::{Applied, Child, Context};
 use rw_programs::prog::{Code, ModCode, Param, ProcCode, Prog, Spec};
+use rw_refusals::refusal::Spot;
 use rw_sequents::line::{Cert, CertLine};
 use rw_terms::name::Name;
 use rw_terms::scope::{Head, Scope, copy_heads};
@@ -176,5 +180,78 @@ fn libraries_heads_and_texts_are_copied(rt: HostRuntime) -> Result<(), Fail> {
     let mut text = Text::new(alloc);
     text.push_str("x")?;
     assert_eq!(rt; text.copy(alloc)?.bytes(), b"x".as_slice());
+    Ok(())
+}
+
+#[test]
+fn edits_and_users_are_copied(rt: HostRuntime) -> Result<(), Fail> {
+    let alloc = rt.alloc();
+    let edit = Edit::Prove(place_at(alloc, &[1])?, 2, cert(alloc)?);
+    match edit.copy(alloc)? {
+        Edit::Prove(place, number, cert) => {
+            assert_eq!(rt; place.path.kids.as_slice(), [1].as_slice());
+            assert_eq!(rt; number, 2);
+            assert_eq!(rt; cert.lines.len(), 2);
+        }
+        _ => return Err("another edit")?,
+    }
+    match Spot::At(place_at(alloc, &[2])?).copy(alloc)? {
+        Spot::At(place) => assert_eq!(rt; place.path.kids.as_slice(), [2].as_slice()),
+        _ => return Err("another user")?,
+    }
+    Ok(())
+}
+
+#[test]
+fn nodes_and_projects_are_copied(rt: HostRuntime) -> Result<(), Fail> {
+    let alloc = rt.alloc();
+    let node = Node::fresh(alloc, Some(Step::Basic(BasicStep::Weaken(Formula::True))))?;
+    let again = node.copy(alloc)?;
+    assert!(rt; again.step.is_some());
+    assert_eq!(rt; again.kids.len(), 1);
+    assert_eq!(rt; again.certs.len(), 1);
+    let mut parts = Parts::empty(alloc, 9);
+    parts.globals = params(alloc, "x")?;
+    let again = parts.copy(alloc)?;
+    assert_eq!(rt; again.globals.len(), 1);
+    assert_eq!(rt; again.most, 9);
+    Ok(())
+}
+
+// A node with one good obligation and a lemma without a certificate.
+fn statuses(alloc: Global) -> Result<Statuses, Fail> {
+    let mut needs = Items::new(alloc);
+    needs.push(Need {
+        sequent: Sequent {
+            names: Items::new(alloc),
+            left: Items::new(alloc),
+            right: Items::new(alloc),
+        },
+        state: NeedState::Good,
+    })?;
+    let mut nodes = Items::new(alloc);
+    nodes.push(NodeMark {
+        place: place_at(alloc, &[])?,
+        status: Status::Good,
+        spec: None,
+        needs,
+    })?;
+    let mut lemmas = Items::new(alloc);
+    lemmas.push(LemmaMark {
+        name: name("l")?,
+        state: NeedState::Missing,
+    })?;
+    Ok(Statuses { nodes, lemmas })
+}
+
+#[test]
+fn statuses_are_copied(rt: HostRuntime) -> Result<(), Fail> {
+    let alloc = rt.alloc();
+    let again = statuses(alloc)?.copy(alloc)?;
+    let node = again.nodes.as_slice().first().ok_or("no node")?;
+    assert_eq!(rt; node.status, Status::Good);
+    assert_eq!(rt; node.needs.len(), 1);
+    let lemma = again.lemmas.as_slice().first().ok_or("no lemma")?;
+    assert_eq!(rt; lemma.state, NeedState::Missing);
     Ok(())
 }

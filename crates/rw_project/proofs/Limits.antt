@@ -1,8 +1,8 @@
 -- The limits on edits and on the bytes of their lines.
 use Rattle.std.proofs.Common.{◌≡◌, ℕ, ◌<◌, ◌≤◌, Some, None, refl, arith, inl, inr}
 use Rattle.std.proofs.lemmas.Bool.Decides.{leb_tells}
-use Rattle.rw_tree.specs.declared.refusal.EditRefusal.TheVariants as refusal
-use Rattle.rw_tree.specs.declared.refusal.Which.TheVariants as which
+use Rattle.rw_refusals.specs.declared.refusal.EditRefusal.TheVariants as refusal
+use Rattle.rw_refusals.specs.declared.refusal.Which.TheVariants as which
 use Rattle.rw_project.specs.Session.{past_limits}
 
 pub past_edits : (n b : ℕ) → 65536 ≤ n → Some (refusal.Limit which.Edits 65536) ≡ past_limits n b

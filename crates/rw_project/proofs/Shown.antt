@@ -7,23 +7,23 @@ use Rattle.rw_terms.specs.Validity.{Each}
 use Rattle.rw_nodes.specs.declared.edit.Edit.{Edit}
 use Rattle.rw_nodes.specs.declared.edit.TreeName.{TreeName}
 use Rattle.rw_nodes.specs.declared.edit.TreeName.TheVariants as tree
-use Rattle.rw_tree.specs.declared.refusal.EditRefusal.{EditRefusal}
-use Rattle.rw_tree.specs.declared.refusal.EditRefusal.TheVariants as refusal
-use Rattle.rw_tree.specs.declared.refusal.Which.TheVariants as which
-use Rattle.rw_tree.specs.declared.status.NodeMark.{NodeMark}
-use Rattle.rw_tree.specs.declared.status.Status.{Status}
-use Rattle.rw_tree.specs.declared.status.Status.TheVariants as status
+use Rattle.rw_refusals.specs.declared.refusal.EditRefusal.{EditRefusal}
+use Rattle.rw_refusals.specs.declared.refusal.EditRefusal.TheVariants as refusal
+use Rattle.rw_refusals.specs.declared.refusal.Which.TheVariants as which
+use Rattle.rw_anew.specs.declared.status.NodeMark.{NodeMark}
+use Rattle.rw_anew.specs.declared.status.Status.{Status}
+use Rattle.rw_anew.specs.declared.status.Status.TheVariants as status
 use Rattle.rw_tree.specs.Accepting.{refusal_of, IsGood}
-use Rattle.rw_tree.specs.Anew.{anew}
-use Rattle.rw_tree.specs.declared.status.LemmaMark.{LemmaMark}
-use Rattle.rw_tree.specs.declared.status.NeedState.{NeedState}
-use Rattle.rw_tree.specs.declared.status.NeedState.TheVariants as need
-use Rattle.rw_tree.specs.Uses.{used_lemmas, IsClosed}
+use Rattle.rw_anew.specs.Anew.{anew}
+use Rattle.rw_anew.specs.declared.status.LemmaMark.{LemmaMark}
+use Rattle.rw_anew.specs.declared.status.NeedState.{NeedState}
+use Rattle.rw_anew.specs.declared.status.NeedState.TheVariants as need
+use Rattle.rw_anew.specs.Uses.{used_lemmas, IsClosed}
 use Rattle.rw_tree.proofs.Same.{first_told}
 use Rattle.rw_collect.proofs.Closed.{closed_refined}
 use Rattle.rw_nodes.specs.declared.edit.Place.{Place}
-use Rattle.rw_reader.specs.declared.request.Request.{Request}
-use Rattle.rw_reader.specs.declared.request.Request.TheVariants as request
+use Rattle.rw_forms.specs.declared.request.Request.{Request}
+use Rattle.rw_forms.specs.declared.request.Request.TheVariants as request
 use Rattle.rw_reader.specs.Reading.{Reading, reads, fault, reading}
 use Rattle.rw_project.specs.Texts.{tree_text, kids_text, status_text, refusal_text, is_good, is_good_state, closed_text, not_closed_text, lemma_open_text, lemmas_text, closing_text}
 use Rattle.rw_project.specs.Goals.{goal_texts, mark_of, lemma_of}

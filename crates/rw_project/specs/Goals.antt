@@ -2,10 +2,10 @@
 use Rattle.std.specs.Prelude.{ℕ, ◌+◌, Bool, if◌then◌else◌, List, [], ◌∷◌, ◌++◌, Option, Some, None, codes, decimal, bytes_eq}
 use Rattle.rw_programs.specs.declared.prog.Spec.{Spec}
 use Rattle.rw_nodes.specs.declared.edit.Place.{Place}
-use Rattle.rw_tree.specs.declared.status.Need.{Need}
-use Rattle.rw_tree.specs.declared.status.NodeMark.{NodeMark}
+use Rattle.rw_anew.specs.declared.status.Need.{Need}
+use Rattle.rw_anew.specs.declared.status.NodeMark.{NodeMark}
 use Rattle.rw_printer.specs.Layout.{spec_text, sequent_text}
-use Rattle.rw_tree.specs.declared.status.LemmaMark.{LemmaMark}
+use Rattle.rw_anew.specs.declared.status.LemmaMark.{LemmaMark}
 use Rattle.rw_project.specs.Texts.{place_text, state_text, status_text, lemma_text}
 
 -- a node's place and status

@@ -1,10 +1,10 @@
 -- What it means that a project is shown closed.
 use Rattle.std.specs.Prelude.{◌≡◌, ◌⊎◌, ℕ, List, ◌∷◌, ◌++◌, ◌↔◌}
 use Rattle.rw_nodes.specs.declared.edit.Place.{Place}
-use Rattle.rw_tree.specs.Anew.{anew}
-use Rattle.rw_tree.specs.Uses.{IsClosed}
+use Rattle.rw_anew.specs.Anew.{anew}
+use Rattle.rw_anew.specs.Uses.{IsClosed}
 use Rattle.rw_collect.specs.Closed.{CodeRefinesRoot}
-use Rattle.rw_reader.specs.declared.request.Request.TheVariants as request
+use Rattle.rw_forms.specs.declared.request.Request.TheVariants as request
 use Rattle.rw_reader.specs.Reading.{reads, reading}
 use Rattle.rw_project.specs.Texts.{closed_text}
 use Rattle.rw_project.specs.Goals.{goal_texts, mark_of, lemma_of}

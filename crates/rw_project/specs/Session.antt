@@ -3,17 +3,17 @@ use Rattle.std.specs.Prelude.{ℕ, ◌==◌, ◌||◌, ◌+◌, Bool, true, fals
 use Rattle.std.specs.List.{list_all}
 use Rattle.rw_nodes.specs.declared.edit.Edit.{Edit}
 use Rattle.rw_nodes.specs.declared.edit.Place.{Place}
-use Rattle.rw_tree.specs.declared.status.NodeMark.{NodeMark}
-use Rattle.rw_tree.specs.declared.refusal.EditRefusal.{EditRefusal}
-use Rattle.rw_tree.specs.declared.refusal.EditRefusal.TheVariants as refusal
-use Rattle.rw_tree.specs.declared.refusal.Which.TheVariants as which
-use Rattle.rw_tree.specs.Refusals.{or_refusal}
+use Rattle.rw_anew.specs.declared.status.NodeMark.{NodeMark}
+use Rattle.rw_refusals.specs.declared.refusal.EditRefusal.{EditRefusal}
+use Rattle.rw_refusals.specs.declared.refusal.EditRefusal.TheVariants as refusal
+use Rattle.rw_refusals.specs.declared.refusal.Which.TheVariants as which
+use Rattle.std.specs.Option.{option_or}
 use Rattle.rw_tree.specs.Accepting.{refusal_of}
-use Rattle.rw_tree.specs.declared.status.LemmaMark.{LemmaMark}
-use Rattle.rw_tree.specs.Anew.{anew}
-use Rattle.rw_tree.specs.Uses.{used_lemmas}
-use Rattle.rw_reader.specs.declared.request.Request.{Request}
-use Rattle.rw_reader.specs.declared.request.Request.TheVariants as request
+use Rattle.rw_anew.specs.declared.status.LemmaMark.{LemmaMark}
+use Rattle.rw_anew.specs.Anew.{anew}
+use Rattle.rw_anew.specs.Uses.{used_lemmas}
+use Rattle.rw_forms.specs.declared.request.Request.{Request}
+use Rattle.rw_forms.specs.declared.request.Request.TheVariants as request
 use Rattle.rw_reader.specs.Reading.{Reading, reads, fault, reading}
 use Rattle.rw_project.specs.Texts.{accepted_text, refusal_text, syntax_text, lemma_text, closing_text}
 use Rattle.rw_project.specs.Goals.{mark_text, node_text, goal_texts, mark_of, lemma_told_text, lemma_of}
@@ -39,7 +39,7 @@ most_weight = 2000000
 
 -- the first test that refuses an edit whose line has so many bytes
 abbrev pub refusal_after : History → ℕ → Edit → Option EditRefusal
-refusal_after history bytes edit = or_refusal (past_limits (length history.0) (history.1 + bytes)) (refusal_of most_weight history.0 edit)
+refusal_after history bytes edit = option_or (past_limits (length history.0) (history.1 + bytes)) (refusal_of most_weight history.0 edit)
 
 -- space, tab and CR
 abbrev pub is_space : ℕ → Bool

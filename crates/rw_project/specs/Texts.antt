@@ -5,18 +5,18 @@ use Rattle.rw_programs.specs.declared.applied.Misfit.TheVariants as misfit
 use Rattle.rw_nodes.specs.declared.edit.TreeName.{TreeName}
 use Rattle.rw_nodes.specs.declared.edit.TreeName.TheVariants as tree
 use Rattle.rw_nodes.specs.declared.edit.Place.{Place}
-use Rattle.rw_tree.specs.declared.refusal.Which.{Which}
-use Rattle.rw_tree.specs.declared.refusal.Which.TheVariants as which
-use Rattle.rw_tree.specs.declared.refusal.Spot.{Spot}
-use Rattle.rw_tree.specs.declared.refusal.Spot.TheVariants as spot
-use Rattle.rw_tree.specs.declared.refusal.EditRefusal.{EditRefusal}
-use Rattle.rw_tree.specs.declared.refusal.EditRefusal.TheVariants as refusal
-use Rattle.rw_tree.specs.declared.status.NeedState.{NeedState}
-use Rattle.rw_tree.specs.declared.status.NeedState.TheVariants as need
-use Rattle.rw_tree.specs.declared.status.Status.{Status}
-use Rattle.rw_tree.specs.declared.status.Status.TheVariants as status
-use Rattle.rw_tree.specs.declared.status.NodeMark.{NodeMark}
-use Rattle.rw_tree.specs.declared.status.LemmaMark.{LemmaMark}
+use Rattle.rw_refusals.specs.declared.refusal.Which.{Which}
+use Rattle.rw_refusals.specs.declared.refusal.Which.TheVariants as which
+use Rattle.rw_refusals.specs.declared.refusal.Spot.{Spot}
+use Rattle.rw_refusals.specs.declared.refusal.Spot.TheVariants as spot
+use Rattle.rw_refusals.specs.declared.refusal.EditRefusal.{EditRefusal}
+use Rattle.rw_refusals.specs.declared.refusal.EditRefusal.TheVariants as refusal
+use Rattle.rw_anew.specs.declared.status.NeedState.{NeedState}
+use Rattle.rw_anew.specs.declared.status.NeedState.TheVariants as need
+use Rattle.rw_anew.specs.declared.status.Status.{Status}
+use Rattle.rw_anew.specs.declared.status.Status.TheVariants as status
+use Rattle.rw_anew.specs.declared.status.NodeMark.{NodeMark}
+use Rattle.rw_anew.specs.declared.status.LemmaMark.{LemmaMark}
 
 -- kid numbers, each behind `/`
 abbrev pub kids_text : List ℕ → List ℕ

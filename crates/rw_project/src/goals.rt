@@ -1,18 +1,18 @@
 // What is told of one node, and of all.
 ghost use Rattle.std.specs.Prelude.{◌≡◌, ◌++◌, map, codes, option_copied, IfOk, OnOk};
 ghost use Rattle.rw_printer.specs.Layout.{spec_text};
-ghost use Rattle.rw_tree.specs.declared.status.NodeMark.{NodeMark};
+ghost use Rattle.rw_anew.specs.declared.status.NodeMark.{NodeMark};
 ghost use Rattle.rw_project.specs.Goals.{mark_text, node_text, need_text, needs_texts, spec_texts, goal_texts, is_at, mark_of, lemma_told_text, lemma_of};
 ghost use Rattle.rw_project.specs.Texts.{lemma_text};
 
 use crate::texts::{push_lemma, push_place, push_state, push_status};
+use rw_anew::status::{LemmaMark, Need, NodeMark};
 use rw_items::Items;
 use rw_nodes::edit::Place;
 use rw_printer::{push_sequent, push_spec};
 use rw_programs::prog::Spec;
 use rw_terms::name::Name;
 use rw_terms::text::Text;
-use rw_tree::status::{LemmaMark, Need, NodeMark};
 use std::alloc::{AllocError, Global};
 
 /// The place and the status of each node.

@@ -1,7 +1,7 @@
 // What the definitions mean, in other words. Each law is the contract of a function that does nothing.
 ghost use Rattle.std.specs.Prelude.{◌≡◌, ◌↔◌, ◌++◌, ℕ, List};
 ghost use Rattle.rw_nodes.specs.declared.edit.Edit.{Edit};
-ghost use Rattle.rw_tree.specs.Uses.{IsClosed};
+ghost use Rattle.rw_anew.specs.Uses.{IsClosed};
 ghost use Rattle.rw_project.specs.Lines.{whole_lines, last_part, with_feeds};
 ghost use Rattle.rw_project.specs.Session.{closing_of};
 ghost use Rattle.rw_project.specs.Texts.{closed_text};

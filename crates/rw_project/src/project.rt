@@ -1,11 +1,11 @@
 // The project, and its replies.
 ghost use Rattle.std.specs.Prelude.{◌≡◌, ◌<◌, ◌≤◌, ◌+◌, ◌∷◌, ◌++◌, ℕ, List, [], None, Some, true, false, length, map, reverse, Contains, IfOk, IfNone, OnOk, OnErr};
-ghost use Rattle.rw_reader.specs.declared.request.Request.TheVariants as request;
+ghost use Rattle.rw_forms.specs.declared.request.Request.TheVariants as request;
 ghost use Rattle.rw_reader.specs.Reading.{reading, reads};
 ghost use Rattle.rw_nodes.specs.declared.edit.Edit.{Edit};
 ghost use Rattle.rw_nodes.specs.Parts.{Makes};
 ghost use Rattle.rw_tree.specs.Accepting.{refusal_of, IsGood, IsProject};
-ghost use Rattle.rw_tree.specs.Anew.{anew};
+ghost use Rattle.rw_anew.specs.Anew.{anew};
 ghost use Rattle.rw_project.specs.Texts.{syntax_text, refusal_text};
 ghost use Rattle.rw_project.specs.Goals.{goal_texts, mark_of, lemma_of};
 ghost use Rattle.rw_project.specs.Session.{reply, edited, told_of, told_lemma, closing_of, all_texts, no_lines, refusal_after, past_limits, no_history};
@@ -18,19 +18,20 @@ use crate::goals::{
 use crate::texts::{
     accepted_text, closing_text, no_node_text, refusal_text, syntax_text, unknown_text,
 };
+use rw_anew::anew::check_anew;
+use rw_anew::status::Statuses;
+use rw_anew::uses::used_lemmas;
+use rw_forms::request::{ReadError, Request};
 use rw_items::Items;
 use rw_nodes::edit::{Edit, Place};
 use rw_nodes::parts::Parts;
 use rw_reader::read_request;
-use rw_reader::request::{ReadError, Request};
+use rw_refusals::refusal::{EditRefusal, Which};
+use rw_sites::error::TreeError;
 use rw_steps::Steps;
 use rw_terms::name::Name;
 use rw_terms::text::Text;
-use rw_tree::anew::check_anew;
 use rw_tree::apply::apply_edit;
-use rw_tree::refusal::{EditRefusal, TreeError, Which};
-use rw_tree::status::Statuses;
-use rw_tree::uses::used_lemmas;
 use std::alloc::{AllocError, Global};
 use std::marker::Model;
 use std::sync::ledger::Ledger;

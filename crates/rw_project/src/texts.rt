@@ -2,12 +2,12 @@
 ghost use Rattle.std.specs.Prelude.{◌≡◌, ◌++◌, [], ◌∷◌, List, IfOk, OnOk};
 ghost use Rattle.rw_project.specs.Texts.{kids_text, tree_text, place_text, point_text, state_text, misfit_number, status_text, which_text, spot_text, refusal_text, accepted_text, syntax_text, is_good, is_good_state, lemma_state_text, lemma_text, lemma_open_text, lemmas_text, closed_text, not_closed_text, closing_text};
 
+use rw_anew::status::{LemmaMark, NeedState, NodeMark, Status};
 use rw_nodes::edit::{Place, TreeName};
 use rw_programs::applied::Misfit;
+use rw_refusals::refusal::{EditRefusal, Spot, Which};
 use rw_terms::name::Name;
 use rw_terms::text::Text;
-use rw_tree::refusal::{EditRefusal, Spot, Which};
-use rw_tree::status::{LemmaMark, NeedState, NodeMark, Status};
 use std::alloc::{AllocError, Global};
 
 pub fn accepted_text(alloc: Global, number: u64) -> Result<Text, AllocError>
