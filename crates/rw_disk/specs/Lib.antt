@@ -1,0 +1,4 @@
+pub mod Events
+pub mod DiskLog
+pub mod MemoryDisk
+pub mod DiskLaws
