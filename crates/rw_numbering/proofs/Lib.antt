@@ -1,0 +1,4 @@
+pub mod Loops
+pub mod Numbers
+pub mod Places
+pub mod Tallied
