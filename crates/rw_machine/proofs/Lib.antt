@@ -1,0 +1,10 @@
+pub mod Bare
+pub mod Counted
+pub mod Going
+pub mod Keeping
+pub mod Leaving
+pub mod LeavingFits
+pub mod Numbered
+pub mod Standing
+pub mod Stepping
+pub mod Tallying
