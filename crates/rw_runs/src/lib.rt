@@ -1,0 +1,4 @@
+//! The machine against the meanings of programs.
+#![tactic(auto)]
+
+pub mod laws;
