@@ -1,0 +1,5 @@
+use Rattle.std.proofs.Common.{◌≡◌, ◌++◌, map, take}
+use Rattle.rw_fits.proofs.names.push_proc_names.Given as goal
+
+abbrev pub invariant-loop-entry : goal.invariant-loop-entry
+invariant-loop-entry l = l.names ≡ l.fn.names ++ map (λ e. e.name) (take l.entry-index l.procs)
