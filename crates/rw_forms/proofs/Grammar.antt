@@ -20,7 +20,7 @@ use Rattle.rw_syntax.proofs.Outside.{advance_stops}
 use Rattle.rw_arith.specs.declared.line.Ref.TheVariants as refs
 use Rattle.rw_tokens.specs.Tokens.{Token, text, number, binder}
 use Rattle.rw_tokens.specs.Classes.{class_of, AreClasses}
-use Rattle.rw_forms.specs.Forms.{Slot, exactly, a_variable, a_constant, any_name, a_number, a_reference, Filled, filled, is_text, is_variable, is_constant, Given, Form, gives, takes, either, rest_of, more_of, one_of, followed, fewer, behind, AreItems, IsOf}
+use Rattle.rw_forms.specs.Forms.{Slot, exactly, a_variable, a_constant, any_name, a_number, a_reference, Filled, filled, is_text, is_variable, is_constant, Given, Form, gives, takes, either, rest_of, more_of, one_of, too_deep, followed, fewer, behind, AreItems, IsOf}
 use Rattle.rw_forms.specs.Reading.{value_of, one_more, ends_class, ends_value, gone_on, after, given}
 use Rattle.rw_tokens.proofs.Plain.{plain_tokens}
 
@@ -45,6 +45,7 @@ starts (either w f g) F t = is_text w t || starts g F t
 starts (rest_of most goal done k) F t = opens goal done t
 starts (more_of item sep done k) F t = is_text sep t || starts (k done) F t
 starts (one_of f g) F t = starts f F t || starts g F t
+starts (too_deep f) F t = starts f F t
 
 abbrev pub is_met : Slot → Bool
 is_met (exactly w) = true
@@ -63,6 +64,7 @@ Keeps P F (either w f g) = (starts g F (text w) ≡ false) × Keeps P F f × Kee
 Keeps P F (rest_of most goal done k) = (goal ≤ 9) × ((s : State) × (run_within most goal (wants []) done ≡ Some s)) × ((v : Part) (t : Token) → starts (k v) F t ≡ true → ends_value t ≡ true) × ((v : Part) → Keeps P F (k v))
 Keeps P F (more_of item sep done k) = (G : Token → Bool) × (G (text sep) ≡ true) × ((gs : List Given) (t : Token) → starts (k gs) F t ≡ true → G t ≡ true) × ((gs : List Given) → starts (k gs) F (text sep) ≡ false) × Keeps (λ g. Unit {0}) G item × ((gs : List Given) → Keeps P F (k gs))
 Keeps P F (one_of f g) = ((t : Token) → starts f F t ≡ true → starts g F t ≡ false) × (given f ≡ None) × Keeps P F f × Keeps P F g
+Keeps P F (too_deep f) = (given f ≡ None) × Keeps P F f
 
 -- what follows a form that is followed
 
@@ -81,6 +83,7 @@ starts_followed (either w f g) j F F2 t h e = either_true (is_text w t) (starts 
 starts_followed (rest_of most goal done k) j F F2 t h e = e
 starts_followed (more_of item sep done k) j F F2 t h e = either_true (is_text sep t) (starts (followed (k done) j) F2 t) (starts (k done) F t) (λ x. starts_followed (k done) j F F2 t h x) e
 starts_followed (one_of f g) j F F2 t h e = either_both (starts (followed f j) F2 t) (starts (followed g j) F2 t) (starts f F t) (starts g F t) (λ x. starts_followed f j F F2 t h x) (λ x. starts_followed g j F F2 t h x) e
+starts_followed (too_deep f) j F F2 t h e = starts_followed f j F F2 t h e
 
 starts_no : (f : Form) (j : Given → Form) (F F2 : Token → Bool) (t : Token) → ((g : Given) → starts (j g) F2 t ≡ true → F t ≡ true) → starts f F t ≡ false → starts (followed f j) F2 t ≡ false
 starts_no f j F F2 t h e = false_from_ne_true (starts (followed f j) F2 t) (λ x. true≢false (sym (starts_followed f j F F2 t h x) ∙ e))
@@ -97,6 +100,7 @@ none_followed (rest_of most goal done k) j e = none_value (value_of most goal do
     none_value (Some v) a b e h = h v e
 none_followed (more_of item sep done k) j e = none_followed (k done) j e
 none_followed (one_of f g) j e = none_followed g j e
+none_followed (too_deep f) j e = refl
 
 pub keeps_followed : (f : Form) (j : Given → Form) (P Q : Given → Type 0) (F F2 : Token → Bool) → ((g : Given) (t : Token) → starts (j g) F2 t ≡ true → F t ≡ true) → ((g : Given) → Keeps Q F2 (j g)) → Keeps P F f → Keeps Q F2 (followed f j)
 keeps_followed (gives g) j P Q F F2 h k p = k g
@@ -105,6 +109,7 @@ keeps_followed (either w f g) j P Q F F2 h k p = (starts_no g j F F2 (text w) (�
 keeps_followed (rest_of most goal done m) j P Q F F2 h k p = (p.0, p.1, (λ v t e. p.2 v t (starts_followed (m v) j F F2 t (λ x. h x t) e)), (λ v. keeps_followed (m v) j P Q F F2 h k (p.3 v)))
 keeps_followed (more_of item sep done m) j P Q F F2 h k p = (p.0, p.1, (λ gs t e. p.2 gs t (starts_followed (m gs) j F F2 t (λ x. h x t) e)), (λ gs. starts_no (m gs) j F F2 (text sep) (λ x. h x (text sep)) (p.3 gs)), p.4, (λ gs. keeps_followed (m gs) j P Q F F2 h k (p.5 gs)))
 keeps_followed (one_of f g) j P Q F F2 h k p = ((λ t e. starts_no g j F F2 t (λ x. h x t) (p.0 t (starts_followed f j F F2 t (λ x. h x t) e))), none_followed f j p.1, keeps_followed f j P Q F F2 h k p.2, keeps_followed g j P Q F F2 h k p.3)
+keeps_followed (too_deep f) j P Q F F2 h k p = (none_followed f j p.0, keeps_followed f j P Q F F2 h k p.1)
 
 -- how a value goes on with a token
 data Going (most goal : ℕ) (done : List Class) (t : Token) (o : Option (List Class)) : Type 0 where
@@ -160,6 +165,7 @@ keeps_after P F (either w f g) f2 t k e = pick_keeps P F f f2 (after g t) k.1 (�
 keeps_after P F (rest_of most goal done m) f2 t k e = value_keeps P F most goal done m f2 t k (λ v x. keeps_after P F (m v) f2 t (k.3 v) x) (option_and_then (one_more most goal done) (class_of t)) (going most goal done t) e
 keeps_after P F (more_of item sep done m) f2 t k e = pick_keeps P F (followed item (λ g. more_of item sep (done ++ g ∷ []) m)) f2 (after (m done) t) (items_keep P F item sep done m k) (λ x. keeps_after P F (m done) f2 t (k.5 done) x) (is_text sep t) e
 keeps_after P F (one_of f g) f2 t k e = first_keeps P F f2 (after f t) (after g t) (λ x. keeps_after P F f f2 t k.2 x) (λ x. keeps_after P F g f2 t k.3 x) e
+keeps_after P F (too_deep f) f2 t k e = absurd (cc)
 
 -- numbers of tokens
 
@@ -237,6 +243,9 @@ split (more_of item sep done k) j n ts v i =
     }
 split (one_of f g) j n ts v (inl i) = let r = split f j n ts v i in record { own = r.own; rest = r.rest; item = r.item; tokens_are = r.tokens_are; is = inl r.is; more = r.more }
 split (one_of f g) j n ts v (inr i) = let r = split g j n ts v i in record { own = r.own; rest = r.rest; item = r.item; tokens_are = r.tokens_are; is = inr r.is; more = r.more }
+split (too_deep f) j n ts v i =
+    let r = split f j 0 ts v i.1 in
+    record { own = r.own; rest = r.rest; item = r.item; tokens_are = r.tokens_are; is = (i.0, r.is); more = subst (λ m. IsOf (j r.item) (behind m r.own) r.rest v) (sym i.0) r.more }
 
 pub join : (f : Form) (j : Given → Form) (n : ℕ) (own rest : List Token) (g v : Given) → IsOf f n own g → IsOf (j g) (behind n own) rest v → IsOf (followed f j) n (own ++ rest) v
 join (gives h) j n own rest g v i m = subst (λ l. IsOf (j h) n (l ++ rest) v) (sym i.0) (subst (λ x. IsOf (j x) n rest v) i.1 (subst (λ l. IsOf (j g) (behind n l) rest v) i.0 m))
@@ -273,6 +282,7 @@ join (more_of item sep done k) j n own rest g v i m = record {
 }
 join (one_of f h) j n own rest g v (inl i) m = inl (join f j n own rest g v i m)
 join (one_of f h) j n own rest g v (inr i) m = inr (join h j n own rest g v i m)
+join (too_deep f) j n own rest g v i m = (i.0, join f j 0 own rest g v i.1 (subst (λ x. IsOf (j g) (behind x own) rest v) i.0 m))
 
 -- a value that ends here
 ends_here : (most goal : ℕ) (done : List Class) (k : Part → Form) (n : ℕ) (ts : List Token) (v : Given) (w : Part) → Written most goal done w → IsOf (k w) n ts v → IsOf (rest_of most goal done k) n ts v
@@ -370,6 +380,7 @@ sound P F (either w f g) f2 t n ts v p e i = pick_sound w f g f2 t n ts v i (λ 
 sound P F (rest_of most goal done k) f2 t n ts v p e i = value_sound most goal done k f2 t n ts v p.0 i (λ w x. sound P F (k w) f2 t n ts v (p.3 w) x i) (option_and_then (one_more most goal done) (class_of t)) (going most goal done t) e
 sound P F (more_of item sep done k) f2 t n ts v p e i = list_sound item sep done k f2 t n ts v i (λ x. sound P F (k done) f2 t n ts v (p.5 done) x i) (is_text sep t) refl e
 sound P F (one_of f g) f2 t n ts v p e i = first_sound f g f2 t n ts v (λ x. sound P F f f2 t n ts v p.2 x i) (λ x. sound P F g f2 t n ts v p.3 x i) (after f t) refl e
+sound P F (too_deep f) f2 t n ts v p e i = absurd (cc (e))
 
 -- what is met begins as its form does
 
@@ -401,6 +412,7 @@ begins P F (rest_of most goal done k) n t ts v p i = value_starts goal done i.cl
 begins P F (more_of item sep done k) n t ts v p i = list_starts P F item sep done k n t ts v i.items i.own i.rest i.tokens_are i.are i.more (λ m x. begins P F (k done) m t ts v (p.5 done) x)
 begins P F (one_of f g) n t ts v p (inl i) = ap (λ b. b || starts g F t) (begins P F f n t ts v p.2 i)
 begins P F (one_of f g) n t ts v p (inr i) = or_right (starts f F t) (starts g F t) (begins P F g n t ts v p.3 i)
+begins P F (too_deep f) n t ts v p i = begins P F f 0 t ts v p.1 i.1
 
 -- every form that keeps its choices apart is met
 
@@ -454,6 +466,7 @@ met P F (rest_of most goal done k) p =
     plus_none m = omega arith
 met P F (more_of item sep done k) p = let r = met P F (k done) (p.5 done) in record { tokens = r.tokens; value = r.value; is = no_more item sep done k 0 r.tokens r.value r.is; fine = r.fine }
 met P F (one_of f g) p = let r = met P F g p.3 in record { tokens = r.tokens; value = r.value; is = inr r.is; fine = r.fine }
+met P F (too_deep f) p = let r = met P F f p.1 in record { tokens = r.tokens; value = r.value; is = (refl, r.is); fine = r.fine }
 
 -- what is met with a token is met behind it
 
@@ -567,6 +580,7 @@ next P F (one_of f g) t n ts v p (inr i) =
     let r = next P F g t n ts v p.3 i in
     let never : starts f F t ≡ false = apart (starts f F t) (starts g F t) (p.0 t) (begins P F g (suc n) t ts v p.3 i) in
     record { form = r.form; is_after = ap (λ o. option_or o (after g t)) (none_after P F f t p.2 never) ∙ r.is_after; is = r.is }
+next P F (too_deep f) t n ts v p i = let z : suc n ≡ 0 = i.0 in absurd (omega arith)
 
 -- the end of the tokens
 
@@ -577,6 +591,7 @@ ends_is P F (either w f g) n v p e = inr (ends_is P F g n v p.2 e)
 ends_is P F (rest_of most goal done k) n v p e = let c = chained (λ w. given (k w)) (value_of most goal done) v e in ends_here most goal done k n [] v c.0 (value_written most goal done c.0 p.0 c.1) (ends_is P F (k c.0) n v (p.3 c.0) c.2)
 ends_is P F (more_of item sep done k) n v p e = no_more item sep done k n [] v (ends_is P F (k done) n v (p.5 done) e)
 ends_is P F (one_of f g) n v p e = inr (ends_is P F g n v p.3 e)
+ends_is P F (too_deep f) n v p e = absurd (cc (e))
 
 both_empty : (a b : List Token) → [] ≡ a ++ b → (a ≡ []) × (b ≡ [])
 both_empty [] b e = (refl, sym e)
@@ -599,6 +614,7 @@ is_given P F (rest_of most goal done k) n v p i =
 is_given P F (more_of item sep done k) n v p i = list_given item sep done k n v i.items i.own i.rest i.tokens_are i.are i.more (λ m x. is_given P F (k done) m v (p.5 done) x)
 is_given P F (one_of f g) n v p (inl i) = let z : Some v ≡ None = sym (is_given P F f n v p.2 i) ∙ p.1 in absurd (cc)
 is_given P F (one_of f g) n v p (inr i) = is_given P F g n v p.3 i
+is_given P F (too_deep f) n v p i = let z : Some v ≡ None = sym (is_given P F f 0 v p.1 i.1) ∙ p.0 in absurd (cc)
 
 -- what is given is of the kind
 pub given_fine : (P : Given → Type 0) (F : Token → Bool) (f : Form) (v : Given) → Keeps P F f → given f ≡ Some v → P v
@@ -608,3 +624,4 @@ given_fine P F (either w f g) v p e = given_fine P F g v p.2 e
 given_fine P F (rest_of most goal done k) v p e = let c = chained (λ w. given (k w)) (value_of most goal done) v e in given_fine P F (k c.0) v (p.3 c.0) c.2
 given_fine P F (more_of item sep done k) v p e = given_fine P F (k done) v (p.5 done) e
 given_fine P F (one_of f g) v p e = given_fine P F g v p.3 e
+given_fine P F (too_deep f) v p e = absurd (cc (e))

@@ -4,7 +4,7 @@ use Rattle.std.specs.Prelude.{codes}
 use Rattle.rw_terms.specs.declared.term.Term.{Term}
 use Rattle.rw_terms.specs.declared.term.Formula.{Formula}
 use Rattle.rw_terms.specs.Named.{Named}
-use Rattle.rw_forms.specs.Forms.{Given, Form, gives, takes, rest_of, more_of, one_of, followed, either, a_name, a_parameter, a_kid, a_term, a_formula, a_variable, a_constant, a_number}
+use Rattle.rw_forms.specs.Forms.{Given, Form, gives, takes, rest_of, more_of, one_of, too_deep, followed, either, a_name, a_parameter, a_kid, a_term, a_formula, a_variable, a_constant, a_number}
 use Rattle.rw_forms.specs.Phrases.{sort, name_form, constant_form, kid_form, formula, term, term_form, term_in, terms, formula_form, parameter, parameter_form}
 use Rattle.rw_forms.proofs.Listing.{IsItem}
 
@@ -40,6 +40,7 @@ followed_twice (either w f g) h j = λ i. either w (followed_twice f h j i) (fol
 followed_twice (rest_of most goal done k) h j = λ i. rest_of most goal done (λ v. followed_twice (k v) h j i)
 followed_twice (more_of item sep done k) h j = λ i. more_of item sep done (λ gs. followed_twice (k gs) h j i)
 followed_twice (one_of f g) h j = λ i. one_of (followed_twice f h j i) (followed_twice g h j i)
+followed_twice (too_deep f) h j = λ i. too_deep (followed_twice f h j i)
 
 pub terms_followed : (most : ℕ) (k : List Term → Form) (j : Given → Form) → followed (terms most k) j ≡ terms most (λ ts. followed (k ts) j)
 unfolding terms

@@ -11,6 +11,9 @@ use Rattle.rw_arith.specs.declared.line.LinLine.{LinLine}
 use Rattle.rw_terms.specs.Named.{Named}
 use Rattle.rw_sequents.specs.declared.line.CertLine.{CertLine}
 use Rattle.rw_sequents.specs.declared.line.Cert.{Cert}
+use Rattle.rw_programs.specs.declared.prog.Arm.{Arm}
+use Rattle.rw_programs.specs.declared.prog.Pin.{Pin}
+use Rattle.rw_programs.specs.declared.prog.Prog.{Prog}
 use Rattle.rw_syntax.specs.declared.token.Token.{Token as Class}
 use Rattle.rw_syntax.specs.declared.frame.Part.{Part}
 use Rattle.rw_syntax.specs.Grammar.{Tree, level, fits, IsFormed, part, nests, text as tree_text}
@@ -109,10 +112,11 @@ filled any_name t = name_of t
 filled (a_number least most) t = number_within least most t
 filled a_reference t = reference_of t
 
--- what a form gives: a request, a certificate, or an item of a list
+-- what a form gives: a request, a certificate, a program, or an item of a list
 pub data Given : Type 0 where
   a_request : Request → Given
   a_cert : Cert → Given
+  a_program : Prog → Given
   a_name : List ℕ → Given
   a_parameter : Named → Given
   a_kid : ℕ → Given
@@ -121,6 +125,8 @@ pub data Given : Type 0 where
   a_line : CertLine → Given
   a_part : SumPart → Given
   a_sum : LinLine → Given
+  an_arm : Arm → Given
+  a_pin : Pin → Given
 
 -- what is still to be read, and what is given then
 pub data Form : Type 0 where
@@ -138,6 +144,8 @@ pub data Form : Type 0 where
   more_of : Form → List ℕ → List Given → (List Given → Form) → Form
   -- a form that cannot be of no tokens, or else another one
   one_of : Form → Form → Form
+  -- a form whose first token passes the bound on the nest: tokens can go on so, but none of them is read
+  too_deep : Form → Form
 
 -- a form, and what is to follow what it gives
 abbrev pub followed : Form → (Given → Form) → Form
@@ -147,6 +155,7 @@ followed (either w f g) j = either w (followed f j) (followed g j)
 followed (rest_of most goal done k) j = rest_of most goal done (λ v. followed (k v) j)
 followed (more_of item sep done k) j = more_of item sep done (λ gs. followed (k gs) j)
 followed (one_of f g) j = one_of (followed f j) (followed g j)
+followed (too_deep f) j = too_deep (followed f j)
 
 -- one item or more, with a word or a symbol between them
 abbrev pub many : Form → List ℕ → (List Given → Form) → Form
@@ -207,3 +216,4 @@ IsOf (either w f g) n ts v = ((rest : List Token) × (ts ≡ text w ∷ rest) ×
 IsOf (rest_of most goal done k) n ts v = Spans most goal done (λ w. IsOf (k w)) n ts v
 IsOf (more_of item sep done k) n ts v = Lists (IsOf item) sep (λ gs. IsOf (k (done ++ gs))) n ts v
 IsOf (one_of f g) n ts v = IsOf f n ts v ⊎ IsOf g n ts v
+IsOf (too_deep f) n ts v = (n ≡ 0) × IsOf f 0 ts v

@@ -8,7 +8,7 @@ use Rattle.rw_syntax.specs.declared.state.State.TheVariants.{Wants as wants}
 use Rattle.rw_syntax.specs.Stops.{stops_at}
 use Rattle.rw_tokens.specs.Tokens.{Token, skip, token_at, LeadsTo}
 use Rattle.rw_tokens.specs.Classes.{class_of}
-use Rattle.rw_forms.specs.Forms.{filled, is_text, Given, Form, gives, takes, either, rest_of, more_of, one_of, followed, IsOf}
+use Rattle.rw_forms.specs.Forms.{filled, is_text, Given, Form, gives, takes, either, rest_of, more_of, one_of, too_deep, followed, IsOf}
 
 -- tokens are of a form and give this, with a nest within 512
 abbrev pub SpellsAs : Form → List Token → Given → Type 0
@@ -62,6 +62,7 @@ after (either w f g) t = cond (is_text w t) (Some f) (after g t)
 after (rest_of most goal done k) t = gone_on (λ more. rest_of most goal more k) (cond (ends_value t) (option_and_then (λ v. after (k v) t) (value_of most goal done)) None) (option_and_then (one_more most goal done) (class_of t))
 after (more_of item sep done k) t = cond (is_text sep t) (Some (followed item (λ g. more_of item sep (done ++ g ∷ []) k))) (after (k done) t)
 after (one_of f g) t = option_or (after f t) (after g t)
+after (too_deep f) t = None
 
 -- what a form gives where the tokens end
 abbrev pub given : Form → Option Given
@@ -71,6 +72,7 @@ given (either w f g) = given g
 given (rest_of most goal done k) = option_and_then (λ v. given (k v)) (value_of most goal done)
 given (more_of item sep done k) = given (k done)
 given (one_of f g) = given g
+given (too_deep f) = None
 
 -- how the reading of a form ends
 pub data Ending : Type 0 where

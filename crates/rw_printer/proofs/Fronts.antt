@@ -19,7 +19,7 @@ use Rattle.rw_printer.proofs.Marks.{word_class, initial_class}
 -- nothing, or a byte that ends words and numbers and makes no symbol with a bracket before it
 abbrev pub ends : List ℕ → Bool
 ends [] = true
-ends (c ∷ cs) = eqb c 32 || eqb c 41 || eqb c 93 || eqb c 91 || eqb c 44
+ends (c ∷ cs) = eqb c 32 || eqb c 41 || eqb c 93 || eqb c 91 || eqb c 44 || eqb c 59 || eqb c 125
 
 -- what a term or a formula begins with
 abbrev pub begins : ℕ → Bool

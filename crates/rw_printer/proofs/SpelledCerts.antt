@@ -20,7 +20,7 @@ use Rattle.rw_syntax.proofs.Choices.{some_is}
 use Rattle.rw_syntax.specs.declared.frame.Part.{Part}
 use Rattle.rw_syntax.specs.Grammar.{part, is_upper, as_term, as_formula}
 use Rattle.rw_tokens.specs.Tokens.{Token, text, number, binder, number_of}
-use Rattle.rw_forms.specs.Forms.{Slot, exactly, a_variable, a_constant, any_name, a_number, a_reference, Filled, filled, is_lower, is_variable, counted, digits_number, formula_named, Given, a_request, a_cert, a_name, a_parameter, a_kid, a_term, a_formula, a_line, a_part, a_sum, Form, gives, takes, either, rest_of, more_of, one_of, followed, many, fewer, behind, AreItems, IsOf}
+use Rattle.rw_forms.specs.Forms.{Slot, exactly, a_variable, a_constant, any_name, a_number, a_reference, Filled, filled, is_lower, is_variable, counted, digits_number, formula_named, Given, a_request, a_cert, a_name, a_parameter, a_kid, a_term, a_formula, a_line, a_part, a_sum, a_program, an_arm, a_pin, Form, gives, takes, either, rest_of, more_of, one_of, too_deep, followed, many, fewer, behind, AreItems, IsOf}
 use Rattle.rw_forms.specs.Phrases.{mark, formula, term, term_form, term_in, terms, closed_terms}
 use Rattle.rw_forms.specs.Certificates.{later_rules, numbered_rules, numbered, number_and_term, number_and_name, two_numbers, two_terms, put_same, put_other, axioms, instances, any_number, signed, times, sum_part, part_form, part_in, sum_of, sum_or_quotient, lin_line, closed_line, lin_form, lin_in, closed_lines, lin, lemma, rule, line_form, line_in, cert, cert_form}
 use Rattle.rw_forms.specs.Reading.{SpellsAs}
@@ -107,6 +107,7 @@ Yields P (either w f g) = Yields P f × Yields P g
 Yields P (rest_of most goal done k) = (v : Part) → IsGood 0 v → Yields P (k v)
 Yields P (more_of item sep done k) = (Q : Given → Bool) × Yields Q item × ((gs : List Given) → AllAre Q gs → Yields P (k (done ++ gs)))
 Yields P (one_of f g) = Yields P f × Yields P g
+Yields P (too_deep f) = Yields P f
 
 items_are : (Q : Given → Bool) (Is : ℕ → List Token → Given → Type 0) (sep : List ℕ) (n : ℕ) (gs : List Given) (ts : List Token) → ((m : ℕ) (us : List Token) (g : Given) → Is m us g → Q g ≡ true) → AreItems Is sep n gs ts → AllAre Q gs
 items_are Q Is sep n [] ts h a = tt
@@ -121,6 +122,7 @@ yields P (rest_of most goal done k) n ts v y i = yields P (k (part [] i.tree)) (
 yields P (more_of item sep done k) n ts v y i = yields P (k (done ++ i.items)) (behind n i.own) i.rest v (y.2 i.items (items_are y.0 (IsOf item) sep n i.items i.own (λ m us g x. yields y.0 item m us g y.1 x) i.are)) i.more
 yields P (one_of f g) n ts v y (inl i) = yields P f n ts v y.0 i
 yields P (one_of f g) n ts v y (inr i) = yields P g n ts v y.1 i
+yields P (too_deep f) n ts v y i = yields P f 0 ts v y i.1
 
 followed_yields : (P Q : Given → Bool) (f : Form) (j : Given → Form) → ((g : Given) → Q g ≡ true → Yields P (j g)) → Yields Q f → Yields P (followed f j)
 followed_yields P Q (gives g) j h y = h g y
@@ -129,6 +131,7 @@ followed_yields P Q (either w f g) j h y = (followed_yields P Q f j h y.0, follo
 followed_yields P Q (rest_of most goal done k) j h y = λ v g. followed_yields P Q (k v) j h (y v g)
 followed_yields P Q (more_of item sep done k) j h y = (y.0, y.1, λ gs a. followed_yields P Q (k (done ++ gs)) j h (y.2 gs a))
 followed_yields P Q (one_of f g) j h y = (followed_yields P Q f j h y.0, followed_yields P Q g j h y.1)
+followed_yields P Q (too_deep f) j h y = followed_yields P Q f j h y
 
 -- a list of items that pass a test
 many_yields : (P Q : Given → Bool) (item : Form) (sep : List ℕ) (k : List Given → Form) → Yields Q item → ((g : Given) (gs : List Given) → Q g ≡ true → AllAre Q gs → Yields P (k (g ∷ gs))) → Yields P (many item sep k)
@@ -147,6 +150,9 @@ is_term (a_cert c) = false
 is_term (a_name x) = false
 is_term (a_parameter p) = false
 is_term (a_kid n) = false
+is_term (a_program p) = false
+is_term (an_arm a) = false
+is_term (a_pin p) = false
 is_term (a_formula f) = false
 is_term (a_line l) = false
 is_term (a_part p) = false
@@ -159,6 +165,9 @@ term_is (a_cert c) e = absurd (true≢false (sym e))
 term_is (a_name x) e = absurd (true≢false (sym e))
 term_is (a_parameter p) e = absurd (true≢false (sym e))
 term_is (a_kid n) e = absurd (true≢false (sym e))
+term_is (a_program p) e = absurd (true≢false (sym e))
+term_is (an_arm a) e = absurd (true≢false (sym e))
+term_is (a_pin p) e = absurd (true≢false (sym e))
 term_is (a_formula f) e = absurd (true≢false (sym e))
 term_is (a_line l) e = absurd (true≢false (sym e))
 term_is (a_part p) e = absurd (true≢false (sym e))
@@ -313,6 +322,9 @@ part_is (a_cert c) e = refl
 part_is (a_name x) e = refl
 part_is (a_parameter p) e = refl
 part_is (a_kid n) e = refl
+part_is (a_program p) e = refl
+part_is (an_arm a) e = refl
+part_is (a_pin p) e = refl
 part_is (a_formula f) e = refl
 part_is (a_line l) e = refl
 part_is (a_sum l) e = refl
@@ -354,6 +366,9 @@ is_sum (a_cert c) = false
 is_sum (a_name x) = false
 is_sum (a_parameter p) = false
 is_sum (a_kid n) = false
+is_sum (a_program p) = false
+is_sum (an_arm a) = false
+is_sum (a_pin p) = false
 is_sum (a_formula f) = false
 is_sum (a_line l) = false
 
@@ -366,6 +381,9 @@ sum_is (a_cert c) e = absurd (true≢false (sym e))
 sum_is (a_name x) e = absurd (true≢false (sym e))
 sum_is (a_parameter p) e = absurd (true≢false (sym e))
 sum_is (a_kid n) e = absurd (true≢false (sym e))
+sum_is (a_program p) e = absurd (true≢false (sym e))
+sum_is (an_arm a) e = absurd (true≢false (sym e))
+sum_is (a_pin p) e = absurd (true≢false (sym e))
 sum_is (a_formula f) e = absurd (true≢false (sym e))
 sum_is (a_line l) e = absurd (true≢false (sym e))
 
@@ -415,6 +433,9 @@ line_is (a_cert c) e = refl
 line_is (a_name x) e = refl
 line_is (a_parameter p) e = refl
 line_is (a_kid n) e = refl
+line_is (a_program p) e = refl
+line_is (an_arm a) e = refl
+line_is (a_pin p) e = refl
 line_is (a_formula f) e = refl
 line_is (a_part p) e = refl
 line_is (a_sum l) e = refl

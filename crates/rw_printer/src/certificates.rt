@@ -144,7 +144,8 @@ fn push_lemma(text: &mut Text, name: &Name, terms: &[Term]) -> Result<(), AllocE
     text.push_str(")")
 }
 
-fn push_terms(text: &mut Text, terms: &[Term]) -> Result<(), AllocError>
+/// Writes terms joined by `,` and a space.
+pub fn push_terms(text: &mut Text, terms: &[Term]) -> Result<(), AllocError>
     ensures text { OnOk result (text.new ≡ text.old ++ terms_text terms.now) }
     ensures names { OnOk result (IsTrue (named_terms terms.now)) }
 {

@@ -10,7 +10,10 @@ mod pieces;
 mod printing;
 mod terms;
 
-pub use certificates::push_cert;
+pub use certificates::{push_cert, push_terms};
+pub use formulas::push_formula;
+pub use pieces::{push_sort, push_word};
 pub use printing::{
     print_cert, print_formula, print_sequent, print_spec, print_term, push_sequent, push_spec,
 };
+pub use terms::push_term;

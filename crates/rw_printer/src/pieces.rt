@@ -70,7 +70,8 @@ pub fn push_quantifier(
     text.push_str(" . ")
 }
 
-fn push_sort(text: &mut Text, sort: Sort) -> Result<(), AllocError>
+/// Writes a sort.
+pub fn push_sort(text: &mut Text, sort: Sort) -> Result<(), AllocError>
     ensures { OnOk result (text.new ≡ text.old ++ sort_text sort) }
 {
     match sort {

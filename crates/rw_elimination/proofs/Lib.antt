@@ -1,0 +1,4 @@
+pub mod Occurrences
+pub mod Stops
+pub mod Pairing
+pub mod Narrow

@@ -1,0 +1,9 @@
+use Rattle.std.proofs.Common.{◌≡◌, true, IfOk, ◌∙◌, subst}
+use Rattle.rw_faults.specs.Limits.{is_small}
+use Rattle.rw_subst.specs.Replaced.{replaced_formula}
+use Rattle.rw_procs.specs.Laws.{wanted}
+use Rattle.rw_procs.proofs.derived.wanted.Goals as goal
+
+pub returns-clause-small : goal.returns-clause-small
+unfolding wanted
+returns-clause-small c = subst (λ cs. IfOk c.replaced.result (λ f. is_small (replaced_formula cs c.args.spec.now.post) ≡ true)) (c.as_slice.ensures ∙ c.in_ok-changes.ensures) c.replaced.ensures.small

@@ -1,0 +1,6 @@
+pub mod Keeping
+pub mod Depth
+pub mod Made
+pub mod ListItems
+pub mod Advance
+pub mod Texts
