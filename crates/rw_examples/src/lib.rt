@@ -2,24 +2,10 @@
 #![tactic(auto)]
 
 #[cfg(test)]
-mod arithmetic;
-#[cfg(test)]
 mod copies;
-#[cfg(test)]
-mod deepest;
 #[cfg(test)]
 mod laws;
 #[cfg(test)]
 mod lemmas;
 #[cfg(test)]
 mod loops;
-#[cfg(test)]
-mod printing;
-#[cfg(test)]
-mod programs;
-#[cfg(test)]
-mod substitution;
-#[cfg(test)]
-mod terms;
-#[cfg(test)]
-mod texts;

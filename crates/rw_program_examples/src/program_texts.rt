@@ -9,7 +9,7 @@ use std::alloc::Global;
 use std::process::Abort;
 use std::test::Fail;
 
-fn program(rt: &impl Abort, alloc: Global, text: &[u8]) -> Result<Boxed<Prog>, Fail> {
+pub fn program(rt: &impl Abort, alloc: Global, text: &[u8]) -> Result<Boxed<Prog>, Fail> {
     assert!(rt; text.len() <= 65536);
     Ok(Boxed::new(alloc, read_program(alloc, text)?)?)
 }

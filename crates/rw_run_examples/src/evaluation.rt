@@ -1,12 +1,12 @@
 //! What a run makes of terms and guards, worked out by hand.
 
-use crate::texts::{formula, term};
 use rw_evaluation::evaluation::{see, test};
 use rw_evaluation::guards::Tested;
 use rw_evaluation::operators::Seen;
 use rw_evaluation::stop::{AbortCause, Stop};
 use rw_evaluation::store::Binding;
 use rw_evaluation::value::Value;
+use rw_example_texts::{formula, term};
 use rw_items::Items;
 use rw_terms::name::Name;
 use std::alloc::Global;

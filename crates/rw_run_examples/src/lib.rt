@@ -5,5 +5,3 @@
 mod evaluation;
 #[cfg(test)]
 mod runs;
-#[cfg(test)]
-mod texts;

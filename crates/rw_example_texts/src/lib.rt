@@ -1,4 +1,5 @@
-//! Terms and formulas by their texts.
+//! What the test crates share: terms and formulas by their texts. It promises nothing; no program calls it.
+#![tactic(auto)]
 
 use rw_items::{Boxed, Items};
 use rw_reader::{read_formula, read_term};
@@ -10,19 +11,21 @@ use std::alloc::Global;
 use std::process::Abort;
 use std::test::Fail;
 
+/// The formula that a text of at most 65,536 bytes spells.
 pub fn formula(rt: &impl Abort, alloc: Global, text: &str) -> Result<Boxed<Formula>, Fail> {
     let text = text.as_bytes();
     assert!(rt; text.len() <= 65536);
     Ok(Boxed::new(alloc, read_formula(alloc, text)?)?)
 }
 
+/// The term that a text of at most 65,536 bytes spells.
 pub fn term(rt: &impl Abort, alloc: Global, text: &str) -> Result<Boxed<Term>, Fail> {
     let text = text.as_bytes();
     assert!(rt; text.len() <= 65536);
     Ok(Boxed::new(alloc, read_term(alloc, text)?)?)
 }
 
-// Whether the text spells the formula.
+/// Whether the text spells the formula.
 pub fn spells(
     rt: &impl Abort,
     alloc: Global,
@@ -33,6 +36,7 @@ pub fn spells(
     Ok(same(wanted.get(), formula_of))
 }
 
+/// The names of these texts.
 pub fn names(alloc: Global, texts: &[&str]) -> Result<Items<Name>, Fail> {
     let mut names = Items::new(alloc);
     for text in texts {
@@ -41,7 +45,7 @@ pub fn names(alloc: Global, texts: &[&str]) -> Result<Items<Name>, Fail> {
     Ok(names)
 }
 
-// The integers `x` and `y`, and the arrays `a` of 3 and `b` of 4 cells.
+/// The integers `x` and `y`, and the arrays `a` of 3 and `b` of 4 cells.
 pub fn globals(alloc: Global) -> Result<Scope, Fail> {
     let mut entries = Items::new(alloc);
     for (text, sort) in [

@@ -1,6 +1,6 @@
 //! Replacement, opening, closing and definedness at work.
 
-use crate::texts::{formula, globals, names, spells, term};
+use rw_example_texts::{formula, globals, names, spells, term};
 use rw_items::{Boxed, Items};
 use rw_subst::defined::{defined, defined_guard};
 use rw_subst::error::SubstError;
