@@ -108,7 +108,10 @@ fn a_step_past_128_bits_is_found_at_that_step(rt: HostRuntime) -> Result<(), Fai
         ),
         ("170141183460469231731687303715884105727 + 1", "wide"),
         ("170141183460469231731687303715884105727 * x + x", "wide"),
-        ("170141183460469231731687303715884105727 * x + x - x", "wide"),
+        (
+            "170141183460469231731687303715884105727 * x + x - x",
+            "wide",
+        ),
         (
             "170141183460469231731687303715884105727 * x + (x - x)",
             "170141183460469231731687303715884105727 x;",
@@ -119,7 +122,10 @@ fn a_step_past_128_bits_is_found_at_that_step(rt: HostRuntime) -> Result<(), Fai
         ),
         ("-(-170141183460469231731687303715884105727 - 1)", "wide"),
         ("0 - (-170141183460469231731687303715884105727 - 1)", "wide"),
-        ("170141183460469231731687303715884105727 * x * (2 * y)", "wide"),
+        (
+            "170141183460469231731687303715884105727 * x * (2 * y)",
+            "wide",
+        ),
     ];
     expansions_are(&rt, rt.alloc(), &cases)
 }
@@ -131,7 +137,10 @@ fn a_product_has_at_most_16_factors_which_are_counted_first(rt: HostRuntime) -> 
             "x * x * x * x * x * x * x * x * x * x * x * x * x * x * x * x",
             "1 x x x x x x x x x x x x x x x x;",
         ),
-        ("x * x * x * x * x * x * x * x * x * x * x * x * x * x * x * x * x", "unfit"),
+        (
+            "x * x * x * x * x * x * x * x * x * x * x * x * x * x * x * x * x",
+            "unfit",
+        ),
         (
             "170141183460469231731687303715884105727 * (x * x * x * x * x * x * x * x * x * x * x * x * x * x * x * x) * (2 * x)",
             "unfit",
@@ -223,8 +232,16 @@ fn bound_variables_may_stand_in_atoms_alone(rt: HostRuntime) -> Result<(), Fail>
         ("a[j] = 0", "1 read;", true),
         ("x - a[j] * 2 = 0", "1 x;-2 read;", true),
         ("x + j = 0", "unfit", false),
-        ("170141183460469231731687303715884105727 + 1 + j = 0", "wide", false),
-        ("j + (170141183460469231731687303715884105727 + 1) = 0", "unfit", false),
+        (
+            "170141183460469231731687303715884105727 + 1 + j = 0",
+            "wide",
+            false,
+        ),
+        (
+            "j + (170141183460469231731687303715884105727 + 1) = 0",
+            "unfit",
+            false,
+        ),
     ];
     for (text, want, is_polynomial) in &cases {
         let (told, found) = bound_case(&rt, rt.alloc(), text)?;
@@ -316,7 +333,19 @@ fn lines_that_no_script_says_refute_nothing(rt: HostRuntime) -> Result<(), Fail>
     let alloc = rt.alloc();
     let once = first_left(alloc, false)?;
     let divided = first_left(alloc, true)?;
-    line_case(&rt, alloc, body_of(&rt, alloc, "x = j")?, once.as_slice(), 1)?;
-    line_case(&rt, alloc, body_of(&rt, alloc, "2 * x = 1")?, divided.as_slice(), 2)?;
+    line_case(
+        &rt,
+        alloc,
+        body_of(&rt, alloc, "x = j")?,
+        once.as_slice(),
+        1,
+    )?;
+    line_case(
+        &rt,
+        alloc,
+        body_of(&rt, alloc, "2 * x = 1")?,
+        divided.as_slice(),
+        2,
+    )?;
     line_case(&rt, alloc, body_of(&rt, alloc, "x = 1")?, &[], 0)
 }

@@ -149,7 +149,14 @@ fn divided(rt: &impl Abort, alloc: Global, limit: u32) -> Result<RunEnd, Fail>
     requires some { 1 ≤ limit }
     requires most { limit ≤ 100000000 }
 {
-    ran(rt, alloc, DIVISION, &["n", "d", "q", "r"], &[17, 5, 0, 0], limit)
+    ran(
+        rt,
+        alloc,
+        DIVISION,
+        &["n", "d", "q", "r"],
+        &[17, 5, 0, 0],
+        limit,
+    )
 }
 
 #[test]
@@ -217,7 +224,8 @@ fn a_call_takes_three_steps(rt: HostRuntime) -> Result<(), Fail> {
 }
 
 // For each i up to 3 the inner loop takes j from 0 to i; the last loop has no turn.
-const NESTED: &str = "do {0} i < 3 -> i := i + 1 ; j := 0 ; do {0} j < i -> j := j + 1 od od ; do {0} 5 < j -> skip od";
+const NESTED: &str =
+    "do {0} i < 3 -> i := i + 1 ; j := 0 ; do {0} j < i -> j := j + 1 od od ; do {0} 5 < j -> skip od";
 
 fn nested(rt: &impl Abort, alloc: Global) -> Result<RunEnd, Fail> {
     ran(rt, alloc, NESTED, &["i", "j"], &[0, 0], 100)
