@@ -56,15 +56,15 @@ fn told(alloc: Global, expansion: &Expansion) -> Result<Text, Fail> {
     Ok(told)
 }
 
-fn expansion_case(rt: &impl Abort, alloc: Global, text: &str) -> Result<Text, Fail> {
-    let term = term(rt, alloc, text)?;
+fn expansion_case(alloc: Global, text: &str) -> Result<Text, Fail> {
+    let term = term(alloc, text)?;
     let expansion = expand(alloc, term.get())?;
     told(alloc, &expansion)
 }
 
 fn expansions_are(rt: &impl Abort, alloc: Global, cases: &[(&str, &str)]) -> Result<(), Fail> {
     for (text, want) in cases {
-        let told = expansion_case(rt, alloc, text)?;
+        let told = expansion_case(alloc, text)?;
         assert_eq!(rt; told.bytes(), want.as_bytes(), "at {text}");
     }
     Ok(())
@@ -158,37 +158,37 @@ fn reads(alloc: Global, many: u32) -> Result<String, Fail> {
     Ok(text)
 }
 
-fn reads_case(rt: &impl Abort, alloc: Global, many: u32) -> Result<bool, Fail> {
+fn reads_case(alloc: Global, many: u32) -> Result<bool, Fail> {
     let text = reads(alloc, many)?;
-    let told = expansion_case(rt, alloc, text.as_str())?;
+    let told = expansion_case(alloc, text.as_str())?;
     Ok(told.bytes() != b"unfit".as_slice())
 }
 
 #[test]
 fn a_polynomial_has_at_most_256_products_beside_the_constant(rt: HostRuntime) -> Result<(), Fail> {
     let alloc = rt.alloc();
-    assert!(rt; reads_case(&rt, alloc, 256)?);
-    assert!(rt; !reads_case(&rt, alloc, 257)?);
+    assert!(rt; reads_case(alloc, 256)?);
+    assert!(rt; !reads_case(alloc, 257)?);
     Ok(())
 }
 
-fn left_case(rt: &impl Abort, alloc: Global, text: &str) -> Result<Text, Fail> {
-    let formula = formula(rt, alloc, text)?;
+fn left_case(alloc: Global, text: &str) -> Result<Text, Fail> {
+    let formula = formula(alloc, text)?;
     let given = given_by_left(alloc, formula.get())?;
     told(alloc, &given)
 }
 
-fn right_case(rt: &impl Abort, alloc: Global, text: &str) -> Result<Text, Fail> {
-    let formula = formula(rt, alloc, text)?;
+fn right_case(alloc: Global, text: &str) -> Result<Text, Fail> {
+    let formula = formula(alloc, text)?;
     let given = given_by_right(alloc, formula.get())?;
     told(alloc, &given)
 }
 
 fn given_are(rt: &impl Abort, alloc: Global, cases: &[(&str, &str, &str)]) -> Result<(), Fail> {
     for (text, left, right) in cases {
-        let told = left_case(rt, alloc, text)?;
+        let told = left_case(alloc, text)?;
         assert_eq!(rt; told.bytes(), left.as_bytes(), "left {text}");
-        let told = right_case(rt, alloc, text)?;
+        let told = right_case(alloc, text)?;
         assert_eq!(rt; told.bytes(), right.as_bytes(), "right {text}");
     }
     Ok(())
@@ -205,9 +205,9 @@ fn formulas_give_polynomials_that_are_0_or_at_least_0(rt: HostRuntime) -> Result
 }
 
 // What `forall j:int .` stands before.
-fn body_of(rt: &impl Abort, alloc: Global, text: &str) -> Result<Formula, Fail> {
+fn body_of(alloc: Global, text: &str) -> Result<Formula, Fail> {
     let text = format!(in alloc; "forall j:int . {text}")?;
-    let quantified = formula(rt, alloc, text.as_str())?;
+    let quantified = formula(alloc, text.as_str())?;
     match quantified.get() {
         Formula::All(_, body) => Ok(body.get().copy(alloc)?),
         _ => Err("not quantified")?,
@@ -215,8 +215,8 @@ fn body_of(rt: &impl Abort, alloc: Global, text: &str) -> Result<Formula, Fail> 
 }
 
 // The expansion of the left side of such an equation, and whether this side is a polynomial.
-fn bound_case(rt: &impl Abort, alloc: Global, text: &str) -> Result<(Text, bool), Fail> {
-    match body_of(rt, alloc, text)? {
+fn bound_case(alloc: Global, text: &str) -> Result<(Text, bool), Fail> {
+    match body_of(alloc, text)? {
         Formula::Eq(term, _) => {
             let is_polynomial = is_polynomial(&term);
             let expansion = expand(alloc, &term)?;
@@ -244,7 +244,7 @@ fn bound_variables_may_stand_in_atoms_alone(rt: HostRuntime) -> Result<(), Fail>
         ),
     ];
     for (text, want, is_polynomial) in &cases {
-        let (told, found) = bound_case(&rt, rt.alloc(), text)?;
+        let (told, found) = bound_case(rt.alloc(), text)?;
         assert_eq!(rt; told.bytes(), want.as_bytes(), "at {text}");
         assert_eq!(rt; found, *is_polynomial, "at {text}");
     }
@@ -252,21 +252,21 @@ fn bound_variables_may_stand_in_atoms_alone(rt: HostRuntime) -> Result<(), Fail>
 }
 
 // So many fronts, and `x`.
-fn nested(rt: &impl Abort, alloc: Global, front: &str) -> Result<Text, Fail> {
+fn nested(alloc: Global, front: &str) -> Result<Text, Fail> {
     let mut text = String::new(alloc);
     for _ in 0..512u32 {
         text.push_str(front)?;
     }
     text.push_str("x")?;
-    expansion_case(rt, alloc, text.as_str())
+    expansion_case(alloc, text.as_str())
 }
 
 #[test]
 fn the_deepest_terms_fit_the_stack(rt: HostRuntime) -> Result<(), Fail> {
     let alloc = rt.alloc();
-    let told = nested(&rt, alloc, "1 + ")?;
+    let told = nested(alloc, "1 + ")?;
     assert_eq!(rt; told.bytes(), b"512;1 x;".as_slice());
-    let told = nested(&rt, alloc, "-")?;
+    let told = nested(alloc, "-")?;
     assert_eq!(rt; told.bytes(), b"1 x;".as_slice());
     Ok(())
 }
@@ -333,19 +333,13 @@ fn lines_that_no_script_says_refute_nothing(rt: HostRuntime) -> Result<(), Fail>
     let alloc = rt.alloc();
     let once = first_left(alloc, false)?;
     let divided = first_left(alloc, true)?;
+    line_case(&rt, alloc, body_of(alloc, "x = j")?, once.as_slice(), 1)?;
     line_case(
         &rt,
         alloc,
-        body_of(&rt, alloc, "x = j")?,
-        once.as_slice(),
-        1,
-    )?;
-    line_case(
-        &rt,
-        alloc,
-        body_of(&rt, alloc, "2 * x = 1")?,
+        body_of(alloc, "2 * x = 1")?,
         divided.as_slice(),
         2,
     )?;
-    line_case(&rt, alloc, body_of(&rt, alloc, "x = 1")?, &[], 0)
+    line_case(&rt, alloc, body_of(alloc, "x = 1")?, &[], 0)
 }

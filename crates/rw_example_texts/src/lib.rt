@@ -1,6 +1,8 @@
 //! What the test crates share: terms and formulas by their texts. It promises nothing; no program calls it.
 #![tactic(auto)]
 
+ghost use Rattle.std.specs.Prelude.{◌≤◌, length, IfOk};
+
 use rw_items::{Boxed, Items};
 use rw_reader::{read_formula, read_term};
 use rw_terms::name::Name;
@@ -8,31 +10,34 @@ use rw_terms::sameness::same;
 use rw_terms::scope::{Entry, Kind, Scope};
 use rw_terms::term::{Formula, Sort, Term};
 use std::alloc::Global;
-use std::process::Abort;
 use std::test::Fail;
 
+// The bytes of a text that the reader takes.
+fn short(text: &str) -> Result<&[u8], Fail>
+    ensures { IfOk result (λ bytes. length bytes.now ≤ 65536) }
+{
+    let bytes = text.as_bytes();
+    if bytes.len() > 65536 {
+        return Err("too long")?;
+    }
+    Ok(bytes)
+}
+
 /// The formula that a text of at most 65,536 bytes spells.
-pub fn formula(rt: &impl Abort, alloc: Global, text: &str) -> Result<Boxed<Formula>, Fail> {
-    let text = text.as_bytes();
-    assert!(rt; text.len() <= 65536);
+pub fn formula(alloc: Global, text: &str) -> Result<Boxed<Formula>, Fail> {
+    let text = short(text)?;
     Ok(Boxed::new(alloc, read_formula(alloc, text)?)?)
 }
 
 /// The term that a text of at most 65,536 bytes spells.
-pub fn term(rt: &impl Abort, alloc: Global, text: &str) -> Result<Boxed<Term>, Fail> {
-    let text = text.as_bytes();
-    assert!(rt; text.len() <= 65536);
+pub fn term(alloc: Global, text: &str) -> Result<Boxed<Term>, Fail> {
+    let text = short(text)?;
     Ok(Boxed::new(alloc, read_term(alloc, text)?)?)
 }
 
 /// Whether the text spells the formula.
-pub fn spells(
-    rt: &impl Abort,
-    alloc: Global,
-    text: &str,
-    formula_of: &Formula,
-) -> Result<bool, Fail> {
-    let wanted = formula(rt, alloc, text)?;
+pub fn spells(alloc: Global, text: &str, formula_of: &Formula) -> Result<bool, Fail> {
+    let wanted = formula(alloc, text)?;
     Ok(same(wanted.get(), formula_of))
 }
 

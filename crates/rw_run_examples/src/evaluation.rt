@@ -10,7 +10,6 @@ use rw_example_texts::{formula, term};
 use rw_items::Items;
 use rw_terms::name::Name;
 use std::alloc::Global;
-use std::process::Abort;
 use std::test::Fail;
 
 // What comes of a term: an integer, an array of some length, or why there is neither.
@@ -44,16 +43,16 @@ fn store(alloc: Global, y: i128) -> Result<Items<Binding>, Fail> {
     Ok(store)
 }
 
-fn seen(rt: &impl Abort, alloc: Global, y: i128, text: &str) -> Result<Told, Fail> {
+fn seen(alloc: Global, y: i128, text: &str) -> Result<Told, Fail> {
     let store = store(alloc, y)?;
-    let term = term(rt, alloc, text)?;
+    let term = term(alloc, text)?;
     let seen = see(alloc, store.as_slice(), term.get())?;
     Ok(told_of(&seen))
 }
 
-fn tested(rt: &impl Abort, alloc: Global, y: i128, text: &str) -> Result<Tested, Fail> {
+fn tested(alloc: Global, y: i128, text: &str) -> Result<Tested, Fail> {
     let store = store(alloc, y)?;
-    let guard = formula(rt, alloc, text)?;
+    let guard = formula(alloc, text)?;
     Ok(test(alloc, store.as_slice(), guard.get())?)
 }
 
@@ -75,7 +74,7 @@ fn sums_and_quotients_stay_within_128_bits(rt: HostRuntime) -> Result<(), Fail> 
         (0, "10 div y", Told::Stopped(DIVISION)),
     ];
     for (y, text, want) in &cases {
-        let found = seen(&rt, alloc, *y, text)?;
+        let found = seen(alloc, *y, text)?;
         assert_eq!(rt; found, *want, "at {text}");
     }
     Ok(())
@@ -95,7 +94,7 @@ fn the_left_operand_decides_first(rt: HostRuntime) -> Result<(), Fail> {
         (2, "put(a, y, 9)[0]", Told::Int(1)),
     ];
     for (y, text, want) in &cases {
-        let found = seen(&rt, alloc, *y, text)?;
+        let found = seen(alloc, *y, text)?;
         assert_eq!(rt; found, *want, "at {text}");
     }
     Ok(())
@@ -110,7 +109,7 @@ fn guards_are_evaluated_wholly(rt: HostRuntime) -> Result<(), Fail> {
         (0, "y = 1 and a[3] = 1", Err(INDEX)),
     ];
     for (y, text, want) in &cases {
-        let found = tested(&rt, alloc, *y, text)?;
+        let found = tested(alloc, *y, text)?;
         assert_eq!(rt; found, *want, "at {text}");
     }
     Ok(())

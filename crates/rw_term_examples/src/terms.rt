@@ -61,14 +61,8 @@ fn sort_told(alloc: Global, found: Result<Sort, TermError>) -> Result<String, Fa
     }
 }
 
-fn sort_case(
-    rt: &impl Abort,
-    alloc: Global,
-    scope: &Scope,
-    heads: &[Head],
-    text: &str,
-) -> Result<String, Fail> {
-    let term = term(rt, alloc, text)?;
+fn sort_case(alloc: Global, scope: &Scope, heads: &[Head], text: &str) -> Result<String, Fail> {
+    let term = term(alloc, text)?;
     sort_told(alloc, sort_of(scope, heads, term.get()))
 }
 
@@ -80,7 +74,7 @@ fn sorts_are(
     cases: &[(&str, &str)],
 ) -> Result<(), Fail> {
     for (text, want) in cases {
-        let told = sort_case(rt, alloc, scope, heads, text)?;
+        let told = sort_case(alloc, scope, heads, text)?;
         assert_eq!(rt; told.as_str(), *want, "at {text}");
     }
     Ok(())
@@ -148,14 +142,8 @@ fn formed_told(alloc: Global, found: Result<(), TermError>) -> Result<String, Fa
     }
 }
 
-fn formed_case(
-    rt: &impl Abort,
-    alloc: Global,
-    scope: &Scope,
-    heads: &[Head],
-    text: &str,
-) -> Result<String, Fail> {
-    let formula = formula(rt, alloc, text)?;
+fn formed_case(alloc: Global, scope: &Scope, heads: &[Head], text: &str) -> Result<String, Fail> {
+    let formula = formula(alloc, text)?;
     formed_told(alloc, well_formed(alloc, scope, heads, formula.get()))
 }
 
@@ -167,7 +155,7 @@ fn formed_are(
     cases: &[(&str, &str)],
 ) -> Result<(), Fail> {
     for (text, want) in cases {
-        let told = formed_case(rt, alloc, scope, heads, text)?;
+        let told = formed_case(alloc, scope, heads, text)?;
         assert_eq!(rt; told.as_str(), *want, "at {text}");
     }
     Ok(())
@@ -283,7 +271,7 @@ fn limits_come_first(rt: HostRuntime) -> Result<(), Fail> {
 #[test]
 fn a_quantified_formula_has_weight_11_and_depth_6(rt: HostRuntime) -> Result<(), Fail> {
     let alloc = rt.alloc();
-    let formula = formula(&rt, alloc, "forall j:int . 0 <= j => not x = j - 1")?;
+    let formula = formula(alloc, "forall j:int . 0 <= j => not x = j - 1")?;
     assert_eq!(rt; weight(formula.get()), 11);
     assert_eq!(rt; depth(formula.get()), 6);
     assert!(rt; free_in(&Name::read(b"x")?, formula.get()));
@@ -313,9 +301,9 @@ fn names_told(alloc: Global, names: &[(Name, Sort)]) -> Result<Text, Fail> {
     Ok(told)
 }
 
-fn names_case(rt: &impl Abort, alloc: Global, scope: &Scope, text: &str) -> Result<Text, Fail> {
+fn names_case(alloc: Global, scope: &Scope, text: &str) -> Result<Text, Fail> {
     let mut formulas = Items::new(alloc);
-    formulas.push(formula(rt, alloc, text)?.into_inner())?;
+    formulas.push(formula(alloc, text)?.into_inner())?;
     let names = names_of(alloc, scope, &[], formulas.as_slice())?;
     names_told(alloc, names.as_slice())
 }
@@ -324,7 +312,7 @@ fn names_case(rt: &impl Abort, alloc: Global, scope: &Scope, text: &str) -> Resu
 fn names_of_formulas_are_sorted_with_their_sorts(rt: HostRuntime) -> Result<(), Fail> {
     let alloc = rt.alloc();
     let scope = scope(alloc)?;
-    let told = names_case(&rt, alloc, &scope, "x < b[0] and K = x and zz = 1")?;
+    let told = names_case(alloc, &scope, "x < b[0] and K = x and zz = 1")?;
     assert_eq!(rt; told.bytes(), b"K:int b:array 4 x:int ".as_slice());
     Ok(())
 }
