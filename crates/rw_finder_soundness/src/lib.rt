@@ -1,0 +1,3 @@
+//! The finder of arithmetic lines against their checker.
+
+pub mod laws;
