@@ -64,6 +64,7 @@ module _ (left right : List Formula) where
     where
       rest : List Row
       rest = cond (ends (n + 1) s) [] (until (n + 1 + 1) rows)
+
       by_case : (b : Bool) → ends n r ≡ b → (some_ends (n + 1) (s ∷ rows) ≡ true → (n + 1) + length (s ∷ rest) ≤ 4096 → last (s ∷ rest) ≡ Some (Fits i) → Ended (s ∷ rest)) → (b || some_ends (n + 1) (s ∷ rows)) ≡ true → n + length (r ∷ cond b [] (s ∷ rest)) ≤ 4096 → last (r ∷ cond b [] (s ∷ rest)) ≡ Some (Fits i) → Ended (r ∷ cond b [] (s ∷ rest))
       by_case true k ih h few is = end_row r i n k (omega arith) is
       by_case false k ih h few is = ih h (omega arith) is
