@@ -79,19 +79,13 @@ fn slots_change_at_once_and_nothing_is_captured(rt: HostRuntime) -> Result<(), F
 fn made_initial(alloc: Global, old: &str, want: &str) -> Result<bool, Fail> {
     let old = formula(alloc, old)?;
     let frame = names(alloc, &["x", "y"])?;
-    is_it(
-        rt,
-        alloc,
-        to_initial(alloc, old.get(), frame.as_slice()),
-        want,
-    )
+    is_it(alloc, to_initial(alloc, old.get(), frame.as_slice()), want)
 }
 
 fn made_current(alloc: Global, old: &str, want: &str) -> Result<bool, Fail> {
     let old = formula(alloc, old)?;
     let frame = names(alloc, &["x", "y"])?;
     is_it(
-        rt,
         alloc,
         from_initial(alloc, old.get(), frame.as_slice()),
         want,
