@@ -26,12 +26,26 @@ def rows(text):
             yield '\n'.join(before + cells[1].strip('`').split(' ⏎ ')) + '\n', cells[0].strip('`')
 
 
+def chapters(text):
+    """Each chapter of the tutorial: its requests, and its replies, one after the other."""
+    for chapter in text.split('\n## ')[1:]:
+        blocks = re.findall(r'```(requests|replies)\n(.*?)```', chapter, re.S)
+        if blocks:
+            yield chapter.splitlines()[0], *(''.join(b for kind, b in blocks if kind == wanted) for wanted in ('requests', 'replies'))
+
+
 cases = list(rows(open(top + '/docs/REFUSALS.md', encoding='utf-8').read()))
 bad = 0
 for (script, want), found in zip(cases, replies(script for script, _ in cases)):
     if found != want:
         bad += 1
         print('%s\n    is told %s and gives %s' % (script.splitlines()[-1], want, found))
+for title, script, want in chapters(open(top + '/docs/TUTORIAL.md', encoding='utf-8').read()):
+    found = subprocess.run([top + '/derive', 'batch'], input=script, capture_output=True, text=True).stdout
+    cases.append(title)
+    if found != want:
+        bad += 1
+        print('chapter %s gives\n%s' % (title, found))
 print('%d scripts, %d of them are not as told' % (len(cases), bad))
 sys.exit(1 if bad else 0)
 P
