@@ -17,8 +17,8 @@ use Rattle.rw_programs.specs.declared.applied.ApplyError.TheVariants as apply_er
 use Rattle.rw_programs.specs.State.{Name}
 use Rattle.rw_derived.specs.Derived.{initial_pre}
 use Rattle.rw_laws.specs.Laws.{Law, fits, misfit, sequent_over}
-use Rattle.rw_procs.specs.declared.head.ProcHead.{ProcHead}
-use Rattle.rw_procs.specs.declared.step.CallStep.{CallStep}
+use Rattle.rw_heads.specs.declared.head.ProcHead.{ProcHead}
+use Rattle.rw_heads.specs.declared.step.CallStep.{CallStep}
 use Rattle.rw_procs.specs.Derived.{called_pre, called_post, changed_post}
 use Rattle.rw_procs.specs.Causes.{Callee, call_cause}
 

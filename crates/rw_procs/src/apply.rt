@@ -9,11 +9,11 @@ ghost use Rattle.rw_procs.specs.Laws.{before_call, after_call, call_obligations,
 
 use crate::causes::call_cause;
 use crate::derived::{asked, promised, wanted};
-use crate::head::ProcHead;
-use crate::step::CallStep;
 use rw_derived::derived::{all_defined, initial_pre};
 use rw_derived::making::{alone, one_formula, owed, two};
 use rw_derived::refusing::{refuse, refuse_twice};
+use rw_heads::head::ProcHead;
+use rw_heads::step::CallStep;
 use rw_items::{Boxed, Items};
 use rw_programs::applied::{Applied, ApplyError, Context, Misfit};
 use rw_programs::copying::copy_list;

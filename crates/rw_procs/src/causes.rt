@@ -6,11 +6,11 @@ ghost use Rattle.rw_faults.specs.Faults.{any_bad, fit_in, bad_application, check
 ghost use Rattle.rw_procs.specs.Causes.{wrong_args, wrong_names, wrong_results, head_of, call_cause};
 ghost use Rattle.rw_procs.specs.Laws.{callee_of};
 
-use crate::head::ProcHead;
-use crate::step::CallStep;
 use rw_derived::parts::{are_assignable, are_code_terms, have_initial};
 use rw_faults::faults::check_sorts;
 use rw_faults::unknown::unknown_in_terms;
+use rw_heads::head::ProcHead;
+use rw_heads::step::CallStep;
 use rw_programs::applied::Misfit;
 use rw_programs::prog::{Param, Spec};
 use rw_programs::sorted::is_of;

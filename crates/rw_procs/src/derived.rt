@@ -12,10 +12,10 @@ ghost use Rattle.rw_derived.specs.Making.{IsLargeRefusal};
 ghost use Rattle.rw_procs.specs.Derived.{args_before};
 ghost use Rattle.rw_procs.specs.Laws.{asked, promised, wanted};
 
-use crate::head::ProcHead;
-use crate::step::CallStep;
 use rw_derived::derived::{replaced, without};
 use rw_faults::initial::is_listed;
+use rw_heads::head::ProcHead;
+use rw_heads::step::CallStep;
 use rw_items::{Boxed, Items};
 use rw_programs::applied::ApplyError;
 use rw_programs::prog::{Param, Spec};

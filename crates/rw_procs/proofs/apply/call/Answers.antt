@@ -5,8 +5,8 @@ use Rattle.rw_programs.specs.declared.prog.Spec.{Spec}
 use Rattle.rw_programs.specs.declared.applied.Applied.{Applied}
 use Rattle.rw_programs.specs.declared.applied.Context.{Context}
 use Rattle.rw_programs.specs.declared.applied.Misfit.{Misfit}
-use Rattle.rw_procs.specs.declared.head.ProcHead.{ProcHead}
-use Rattle.rw_procs.specs.declared.step.CallStep.{CallStep}
+use Rattle.rw_heads.specs.declared.head.ProcHead.{ProcHead}
+use Rattle.rw_heads.specs.declared.step.CallStep.{CallStep}
 use Rattle.rw_procs.specs.Causes.{call_cause}
 use Rattle.rw_procs.specs.Laws.{callee_of, called, call_small, call_made, call_law}
 use Rattle.rw_procs.proofs.Fitting.{call_long}
