@@ -9,7 +9,7 @@ use rw_arith::given::{given_by_left, given_by_right};
 use rw_arith::line::{LinLine, Part, Ref};
 use rw_arith::poly::{Expansion, Summand};
 use rw_example_texts::{formula, term};
-use rw_items::Items;
+use rw_items::{Boxed, Items};
 use rw_steps::Steps;
 use rw_terms::name::Name;
 use rw_terms::term::{Formula, Term};
@@ -58,7 +58,11 @@ fn told(alloc: Global, expansion: &Expansion) -> Result<Text, Fail> {
 
 fn expansion_case(alloc: Global, text: &str) -> Result<Text, Fail> {
     let term = term(alloc, text)?;
-    let expansion = expand(alloc, term.get())?;
+    expanded(alloc, term.get())
+}
+
+fn expanded(alloc: Global, term: &Term) -> Result<Text, Fail> {
+    let expansion = expand(alloc, term)?;
     told(alloc, &expansion)
 }
 
@@ -205,25 +209,27 @@ fn formulas_give_polynomials_that_are_0_or_at_least_0(rt: HostRuntime) -> Result
 }
 
 // What `forall j:int .` stands before.
-fn body_of(alloc: Global, text: &str) -> Result<Formula, Fail> {
+fn body_of(alloc: Global, text: &str) -> Result<Boxed<Formula>, Fail> {
     let text = format!(in alloc; "forall j:int . {text}")?;
     let quantified = formula(alloc, text.as_str())?;
     match quantified.get() {
-        Formula::All(_, body) => Ok(body.get().copy(alloc)?),
+        Formula::All(_, body) => Ok(Boxed::new(alloc, body.get().copy(alloc)?)?),
         _ => Err("not quantified")?,
+    }
+}
+
+fn left_side(equation: &Formula) -> Option<&Term> {
+    match equation {
+        Formula::Eq(term, _) => Some(term),
+        _ => None,
     }
 }
 
 // The expansion of the left side of such an equation, and whether this side is a polynomial.
 fn bound_case(alloc: Global, text: &str) -> Result<(Text, bool), Fail> {
-    match body_of(alloc, text)? {
-        Formula::Eq(term, _) => {
-            let is_polynomial = is_polynomial(&term);
-            let expansion = expand(alloc, &term)?;
-            Ok((told(alloc, &expansion)?, is_polynomial))
-        }
-        _ => Err("no equation")?,
-    }
+    let body = body_of(alloc, text)?;
+    let term = left_side(body.get()).ok_or("no equation")?;
+    Ok((expanded(alloc, term)?, is_polynomial(term)))
 }
 
 #[test]
@@ -272,9 +278,9 @@ fn the_deepest_terms_fit_the_stack(rt: HostRuntime) -> Result<(), Fail> {
 }
 
 // The formula alone.
-fn side(alloc: Global, formula: Formula) -> Result<Items<Formula>, Fail> {
+fn side(alloc: Global, formula: Boxed<Formula>) -> Result<Items<Formula>, Fail> {
     let mut formulas = Items::new(alloc);
-    formulas.push(formula)?;
+    formulas.push(formula.into_inner())?;
     Ok(formulas)
 }
 
@@ -312,7 +318,7 @@ fn checked<L: Ledger>(
 fn line_case(
     rt: &impl Abort,
     alloc: Global,
-    left: Formula,
+    left: Boxed<Formula>,
     lines: &[LinLine],
     bad: u32,
 ) -> Result<(), Fail> {
