@@ -1,6 +1,6 @@
 //! Recursion at the depth that the reader can make, where no script reaches it: a line is refused before these calls see its formulas.
 
-use rw_example_texts::{globals, names};
+use crate::texts::{globals, names};
 use rw_faults::faults::is_ill_sorted;
 use rw_faults::initial::initial_outside;
 use rw_faults::unknown::unknown_in;

@@ -1,4 +1,4 @@
-//! Examples of terms and formulas, worked by hand: sorts, sizes, replacement, and what is printed.
+//! Examples of terms, formulas and programs, worked by hand: sorts, sizes, replacement, what is code, and what is printed.
 #![tactic(auto)]
 
 #[cfg(test)]
@@ -6,6 +6,10 @@ mod deepest;
 #[cfg(test)]
 mod printing;
 #[cfg(test)]
+mod programs;
+#[cfg(test)]
 mod substitution;
 #[cfg(test)]
 mod terms;
+#[cfg(test)]
+mod texts;

@@ -1,6 +1,6 @@
 //! Replacement, opening, closing and definedness at work.
 
-use rw_example_texts::{formula, globals, names, spells, term};
+use crate::texts::{formula, globals, names, spells, term};
 use rw_items::{Boxed, Items};
 use rw_subst::defined::{defined, defined_guard};
 use rw_subst::error::SubstError;
@@ -11,6 +11,7 @@ use rw_terms::name::Name;
 use rw_terms::scope::Scope;
 use rw_terms::term::{Formula, Term};
 use std::alloc::Global;
+use std::process::Abort;
 use std::test::Fail;
 
 // A name as a variable, as an initial variable with a `0` behind it, or as a constant with a capital.
@@ -26,26 +27,37 @@ fn slot(text: &str) -> Result<Slot, Fail> {
     }
 }
 
-fn changes(alloc: Global, pairs: &[(&str, &str)]) -> Result<Items<Change>, Fail> {
+fn changes(rt: &impl Abort, alloc: Global, pairs: &[(&str, &str)]) -> Result<Items<Change>, Fail> {
     let mut changes = Items::new(alloc);
     for (old, new) in pairs {
         let slot = slot(old)?;
-        let term = term(alloc, new)?.into_inner();
+        let term = term(rt, alloc, new)?.into_inner();
         changes.push(Change { slot, term })?;
     }
     Ok(changes)
 }
 
-fn replaced(alloc: Global, old: &str, pairs: &[(&str, &str)], want: &str) -> Result<bool, Fail> {
-    let old = formula(alloc, old)?;
-    let changes = changes(alloc, pairs)?;
+fn replaced(
+    rt: &impl Abort,
+    alloc: Global,
+    old: &str,
+    pairs: &[(&str, &str)],
+    want: &str,
+) -> Result<bool, Fail> {
+    let old = formula(rt, alloc, old)?;
+    let changes = changes(rt, alloc, pairs)?;
     let new = replace(alloc, old.get(), changes.as_slice());
-    is_it(alloc, new, want)
+    is_it(rt, alloc, new, want)
 }
 
-fn is_it(alloc: Global, found: Result<Formula, SubstError>, want: &str) -> Result<bool, Fail> {
+fn is_it(
+    rt: &impl Abort,
+    alloc: Global,
+    found: Result<Formula, SubstError>,
+    want: &str,
+) -> Result<bool, Fail> {
     match found {
-        Ok(found) => spells(alloc, want, &found),
+        Ok(found) => spells(rt, alloc, want, &found),
         Err(error) => Err(error.into()),
     }
 }
@@ -69,23 +81,29 @@ fn slots_change_at_once_and_nothing_is_captured(rt: HostRuntime) -> Result<(), F
         ("x < y0", &[("y", "1"), ("x0", "2")], "x < y0"),
     ];
     for (old, pairs, want) in cases {
-        assert!(rt; replaced(rt.alloc(), old, pairs, want)?, "at {old}");
+        assert!(rt; replaced(&rt, rt.alloc(), old, pairs, want)?, "at {old}");
     }
     replacement();
     kinds();
     Ok(())
 }
 
-fn made_initial(alloc: Global, old: &str, want: &str) -> Result<bool, Fail> {
-    let old = formula(alloc, old)?;
-    let frame = names(alloc, &["x", "y"])?;
-    is_it(alloc, to_initial(alloc, old.get(), frame.as_slice()), want)
-}
-
-fn made_current(alloc: Global, old: &str, want: &str) -> Result<bool, Fail> {
-    let old = formula(alloc, old)?;
+fn made_initial(rt: &impl Abort, alloc: Global, old: &str, want: &str) -> Result<bool, Fail> {
+    let old = formula(rt, alloc, old)?;
     let frame = names(alloc, &["x", "y"])?;
     is_it(
+        rt,
+        alloc,
+        to_initial(alloc, old.get(), frame.as_slice()),
+        want,
+    )
+}
+
+fn made_current(rt: &impl Abort, alloc: Global, old: &str, want: &str) -> Result<bool, Fail> {
+    let old = formula(rt, alloc, old)?;
+    let frame = names(alloc, &["x", "y"])?;
+    is_it(
+        rt,
         alloc,
         from_initial(alloc, old.get(), frame.as_slice()),
         want,
@@ -95,27 +113,33 @@ fn made_current(alloc: Global, old: &str, want: &str) -> Result<bool, Fail> {
 #[test]
 fn variables_of_the_frame_become_initial_and_back(rt: HostRuntime) -> Result<(), Fail> {
     let alloc = rt.alloc();
-    assert!(rt; made_initial(alloc, "x < z and y0 = 1", "x0 < z and y0 = 1")?);
-    assert!(rt; made_current(alloc, "x0 < z0 and y0 = 1", "x < z0 and y = 1")?);
+    assert!(rt; made_initial(&rt, alloc, "x < z and y0 = 1", "x0 < z and y0 = 1")?);
+    assert!(rt; made_current(&rt, alloc, "x0 < z0 and y0 = 1", "x < z0 and y = 1")?);
     Ok(())
 }
 
 // The body of a quantifier, opened by a term.
-fn opened(alloc: Global, quantified: &str, put: &str, want: &str) -> Result<bool, Fail> {
-    let quantified = formula(alloc, quantified)?;
-    let put = term(alloc, put)?;
+fn opened(
+    rt: &impl Abort,
+    alloc: Global,
+    quantified: &str,
+    put: &str,
+    want: &str,
+) -> Result<bool, Fail> {
+    let quantified = formula(rt, alloc, quantified)?;
+    let put = term(rt, alloc, put)?;
     match quantified.get() {
-        Formula::All(_, body) => is_it(alloc, open(alloc, body.get(), put.get()), want),
+        Formula::All(_, body) => is_it(rt, alloc, open(alloc, body.get(), put.get()), want),
         _ => Ok(false),
     }
 }
 
 // What is closed, opened again by the same name.
-fn closed(alloc: Global, old: &str, taken: &str) -> Result<bool, Fail> {
-    let read = formula(alloc, old)?;
-    let put = term(alloc, taken)?;
+fn closed(rt: &impl Abort, alloc: Global, old: &str, taken: &str) -> Result<bool, Fail> {
+    let read = formula(rt, alloc, old)?;
+    let put = term(rt, alloc, taken)?;
     match close(alloc, read.get(), &slot(taken)?) {
-        Ok(body) => is_it(alloc, open(alloc, &body, put.get()), old),
+        Ok(body) => is_it(rt, alloc, open(alloc, &body, put.get()), old),
         Err(error) => Err(error.into()),
     }
 }
@@ -125,16 +149,22 @@ fn bodies_are_opened_and_closed_under_quantifiers(rt: HostRuntime) -> Result<(),
     let alloc = rt.alloc();
     let quantified = "forall i:int . i < x and (exists j:int . i + j = y0)";
     let want = "y + 1 < x and (exists j:int . y + 1 + j = y0)";
-    assert!(rt; opened(alloc, quantified, "y + 1", want)?);
-    assert!(rt; closed(alloc, want, "y")?);
+    assert!(rt; opened(&rt, alloc, quantified, "y + 1", want)?);
+    assert!(rt; closed(&rt, alloc, want, "y")?);
     opening();
     closing();
     Ok(())
 }
 
-fn asked(alloc: Global, scope: &Scope, old: &str, want: &str) -> Result<bool, Fail> {
-    let old = term(alloc, old)?;
-    is_it(alloc, defined(alloc, scope, old.get()), want)
+fn asked(
+    rt: &impl Abort,
+    alloc: Global,
+    scope: &Scope,
+    old: &str,
+    want: &str,
+) -> Result<bool, Fail> {
+    let old = term(rt, alloc, old)?;
+    is_it(rt, alloc, defined(alloc, scope, old.get()), want)
 }
 
 #[test]
@@ -153,15 +183,21 @@ fn conditions_stand_in_order_of_text(rt: HostRuntime) -> Result<(), Fail> {
         ("a[b[x]]", "0 <= x and x < 4 and 0 <= b[x] and b[x] < 3"),
     ];
     for (old, want) in cases {
-        assert!(rt; asked(alloc, &scope, old, want)?, "at {old}");
+        assert!(rt; asked(&rt, alloc, &scope, old, want)?, "at {old}");
     }
     definedness();
     Ok(())
 }
 
-fn asked_of_guard(alloc: Global, scope: &Scope, old: &str, want: &str) -> Result<bool, Fail> {
-    let old = formula(alloc, old)?;
-    is_it(alloc, defined_guard(alloc, scope, old.get()), want)
+fn asked_of_guard(
+    rt: &impl Abort,
+    alloc: Global,
+    scope: &Scope,
+    old: &str,
+    want: &str,
+) -> Result<bool, Fail> {
+    let old = formula(rt, alloc, old)?;
+    is_it(rt, alloc, defined_guard(alloc, scope, old.get()), want)
 }
 
 #[test]
@@ -177,7 +213,7 @@ fn conditions_of_a_guard_are_those_of_all_its_terms(rt: HostRuntime) -> Result<(
         ),
     ];
     for (old, want) in cases {
-        assert!(rt; asked_of_guard(alloc, &scope, old, want)?, "at {old}");
+        assert!(rt; asked_of_guard(&rt, alloc, &scope, old, want)?, "at {old}");
     }
     Ok(())
 }
@@ -196,8 +232,14 @@ fn refused(alloc: Global, old: &Term, put: Term) -> Result<u32, Fail> {
 }
 
 // A sum of the text with itself, so often made again with itself, and then so often negated.
-fn grown(alloc: Global, text: &str, doubled: u32, negated: u32) -> Result<Boxed<Term>, Fail> {
-    let mut grown = term(alloc, text)?;
+fn grown(
+    rt: &impl Abort,
+    alloc: Global,
+    text: &str,
+    doubled: u32,
+    negated: u32,
+) -> Result<Boxed<Term>, Fail> {
+    let mut grown = term(rt, alloc, text)?;
     for _ in 0..doubled {
         let again = Boxed::new(alloc, grown.get().copy(alloc)?)?;
         grown = Boxed::new(alloc, Term::Add(grown, again))?;
@@ -220,8 +262,8 @@ fn results_past_a_limit_are_refused_with_their_weight(rt: HostRuntime) -> Result
         ((15, 0), (15, 0), 2147483647),
         ((15, 0), (18, 0), u32::MAX),
     ] {
-        let old = grown(alloc, "x", old.0, old.1)?;
-        let put = grown(alloc, "1", put.0, put.1)?;
+        let old = grown(&rt, alloc, "x", old.0, old.1)?;
+        let put = grown(&rt, alloc, "1", put.0, put.1)?;
         assert_eq!(rt; refused(alloc, old.get(), put.into_inner())?, refusal);
     }
     Ok(())

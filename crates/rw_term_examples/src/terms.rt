@@ -1,6 +1,5 @@
 //! What the contracts leave open: examples whose answers were worked out by hand, and the depth that the stack carries.
 
-use rw_example_texts::{formula, term};
 use rw_items::{Boxed, Items};
 use rw_terms::division::{quotient, rest};
 use rw_terms::error::{ScopeError, TermError};
@@ -18,6 +17,181 @@ use rw_terms::text::Text;
 use std::alloc::Global;
 use std::process::Abort;
 use std::test::Fail;
+
+// Terms and formulas as they are built from words that stand behind their parts, as `x 1 + 2 =`.
+#[derive(Drop)]
+struct Stack {
+    alloc: Global,
+    terms: Vec<Term>,
+    formulas: Vec<Formula>,
+}
+
+impl Stack {
+    fn new(alloc: Global) -> Stack {
+        Stack {
+            alloc,
+            terms: Vec::new(alloc),
+            formulas: Vec::new(alloc),
+        }
+    }
+
+    fn term(&mut self) -> Result<Term, Fail> {
+        Ok(self.terms.pop().ok_or("no term")?)
+    }
+
+    fn boxed(&mut self) -> Result<Boxed<Term>, Fail> {
+        let term = self.term()?;
+        Ok(Boxed::new(self.alloc, term)?)
+    }
+
+    fn formula(&mut self) -> Result<Boxed<Formula>, Fail> {
+        let formula = self.formulas.pop().ok_or("no formula")?;
+        Ok(Boxed::new(self.alloc, formula)?)
+    }
+
+    fn operator(&mut self, word: &str) -> Result<(), Fail> {
+        let b = self.boxed()?;
+        let a = self.boxed()?;
+        let term = match word {
+            "+" => Term::Add(a, b),
+            "-" => Term::Sub(a, b),
+            "*" => Term::Mul(a, b),
+            "div" => Term::Div(a, b),
+            "mod" => Term::Mod(a, b),
+            _ => Term::Read(a, b),
+        };
+        self.terms.push(term)?;
+        Ok(())
+    }
+
+    fn put(&mut self) -> Result<(), Fail> {
+        let e = self.boxed()?;
+        let i = self.boxed()?;
+        let a = self.boxed()?;
+        self.terms.push(Term::Put(a, i, e))?;
+        Ok(())
+    }
+
+    fn relation(&mut self, word: &str) -> Result<(), Fail> {
+        let u = self.term()?;
+        let t = self.term()?;
+        let formula = match word {
+            "=" => Formula::Eq(t, u),
+            "<" => Formula::Less(t, u),
+            _ => Formula::AtMost(t, u),
+        };
+        self.formulas.push(formula)?;
+        Ok(())
+    }
+
+    fn connective(&mut self, word: &str) -> Result<(), Fail> {
+        let g = self.formula()?;
+        let f = self.formula()?;
+        let formula = match word {
+            "and" => Formula::And(f, g),
+            "or" => Formula::Or(f, g),
+            _ => Formula::Imp(f, g),
+        };
+        self.formulas.push(formula)?;
+        Ok(())
+    }
+
+    // `all` and `any` with the length of an array, or 0 for an integer; an array of length 0 is `all-0`.
+    fn quantifier(&mut self, word: &str) -> Result<(), Fail> {
+        let f = self.formula()?;
+        let formula = match word {
+            "all" => Formula::All(Sort::Int, f),
+            "any" => Formula::Any(Sort::Int, f),
+            "all-0" => Formula::All(Sort::Array(0), f),
+            "any-0" => Formula::Any(Sort::Array(0), f),
+            "all-3" => Formula::All(Sort::Array(3), f),
+            "all-1024" => Formula::All(Sort::Array(1024), f),
+            _ => Formula::All(Sort::Array(1025), f),
+        };
+        self.formulas.push(formula)?;
+        Ok(())
+    }
+
+    // A name, an initial variable as `x'`, a constant with a capital, or a bound variable as `_0`.
+    fn name(&mut self, word: &str) -> Result<(), Fail> {
+        let term = if let Some(x) = word.strip_suffix("'") {
+            Term::Init(Name::read(x.as_bytes())?)
+        } else if let Some(k) = word.strip_prefix("_") {
+            Term::Bound(k.parse::<u32>()?)
+        } else if word == "K" || word == "X" {
+            Term::Const(Name::read(word.as_bytes())?)
+        } else {
+            Term::Var(Name::read(word.as_bytes())?)
+        };
+        self.terms.push(term)?;
+        Ok(())
+    }
+
+    // A predicate or a function on the terms that are there.
+    fn apply(&mut self, word: &str) -> Result<(), Fail> {
+        let name = Name::read(word.as_bytes())?;
+        let mut args = Items::new(self.alloc);
+        for term in self.terms.drain(..) {
+            args.push(term)?;
+        }
+        self.formulas.push(Formula::App(name, args))?;
+        Ok(())
+    }
+
+    fn word(&mut self, word: &str) -> Result<(), Fail> {
+        match word {
+            "+" | "-" | "*" | "div" | "mod" | "[]" => self.operator(word),
+            "=" | "<" | "<=" => self.relation(word),
+            "and" | "or" | "=>" => self.connective(word),
+            "all" | "any" | "all-0" | "any-0" | "all-3" | "all-1024" | "all-1025" =>
+                self.quantifier(word),
+            "put" => self.put(),
+            "neg" => {
+                let a = self.boxed()?;
+                self.terms.push(Term::Neg(a))?;
+                Ok(())
+            }
+            "not" => {
+                let f = self.formula()?;
+                self.formulas.push(Formula::Not(f))?;
+                Ok(())
+            }
+            "true" => {
+                self.formulas.push(Formula::True)?;
+                Ok(())
+            }
+            "P" | "Q" => self.apply(word),
+            "f" => {
+                let f = Name::read(b"f")?;
+                self.terms.push(Term::Fun(f, Items::new(self.alloc)))?;
+                Ok(())
+            }
+            _ => match word.parse::<i128>() {
+                Ok(n) => {
+                    self.terms.push(Term::Lit(n))?;
+                    Ok(())
+                }
+                Err(_) => self.name(word),
+            },
+        }
+    }
+}
+
+fn term(alloc: Global, text: &str) -> Result<Term, Fail> {
+    let mut stack = Stack::new(alloc);
+    for word in text.split(' ') {
+        stack.word(word)?;
+    }
+    stack.term()
+}
+
+fn formula(alloc: Global, text: &str) -> Result<Formula, Fail> {
+    let mut stack = Stack::new(alloc);
+    for word in text.split(' ') {
+        stack.word(word)?;
+    }
+    Ok(stack.formula()?.into_inner())
+}
 
 // A global `x`, arrays `a` of 3 and `b` of 4 cells, and a constant `K`.
 fn scope(alloc: Global) -> Result<Scope, Fail> {
@@ -63,7 +237,7 @@ fn sort_told(alloc: Global, found: Result<Sort, TermError>) -> Result<String, Fa
 
 fn sort_case(alloc: Global, scope: &Scope, heads: &[Head], text: &str) -> Result<String, Fail> {
     let term = term(alloc, text)?;
-    sort_told(alloc, sort_of(scope, heads, term.get()))
+    sort_told(alloc, sort_of(scope, heads, &term))
 }
 
 fn sorts_are(
@@ -83,56 +257,34 @@ fn sorts_are(
 #[test]
 fn terms_have_sorts_or_a_first_part_at_fault(rt: HostRuntime) -> Result<(), Fail> {
     let cases = [
-        ("x + 1", "int"),
+        ("x 1 +", "int"),
         ("a", "array 3"),
-        ("put(a, 1, x0)", "array 3"),
-        ("b[9]", "int"),
-        ("K mod x", "int"),
-        ("x + a", "bad 1"),
-        ("1 + (x + a)", "bad 3"),
-        ("1 + -a", "bad 3"),
-        ("x[1]", "bad 1"),
-        ("a[a]", "bad 1"),
-        ("put(x, 1, 1)", "bad 1"),
-        ("put(a, 1, b)", "bad 1"),
-        ("a[1] + x[1]", "bad 5"),
-        ("zz + 1", "unknown zz"),
-        ("a + zz", "bad 1"),
-        ("zz + -a", "unknown zz"),
+        ("a 1 x' put", "array 3"),
+        ("b 9 []", "int"),
+        ("K x mod", "int"),
+        ("x a +", "bad 1"),
+        ("1 x a + +", "bad 3"),
+        ("1 a neg +", "bad 3"),
+        ("x 1 []", "bad 1"),
+        ("a a []", "bad 1"),
+        ("x 1 1 put", "bad 1"),
+        ("a 1 b put", "bad 1"),
+        ("a 1 [] x 1 [] +", "bad 5"),
+        ("-1", "bad 1"),
+        ("x -1 -", "bad 3"),
+        ("_0", "bad 1"),
+        ("zz 1 +", "unknown zz"),
+        ("a zz +", "bad 1"),
+        ("zz a neg +", "unknown zz"),
         ("X", "unknown X"),
         ("k", "unknown k"),
-        ("f(1) + x", "unknown f"),
+        ("K' 1 +", "unknown K"),
+        ("f x +", "unknown f"),
     ];
     let alloc = rt.alloc();
     let scope = scope(alloc)?;
     let heads = heads(alloc)?;
     sorts_are(&rt, alloc, &scope, heads.as_slice(), &cases)
-}
-
-fn sort_of_value(alloc: Global, term: &Term) -> Result<String, Fail> {
-    sort_told(alloc, sort_of(&scope(alloc)?, &[], term))
-}
-
-fn added(alloc: Global, left: Term, right: Term) -> Result<Term, Fail> {
-    Ok(Term::Add(Boxed::new(alloc, left)?, Boxed::new(alloc, right)?))
-}
-
-#[test]
-fn numbers_below_0_and_loose_bound_variables_have_no_sort(rt: HostRuntime) -> Result<(), Fail> {
-    let alloc = rt.alloc();
-    assert_eq!(rt; sort_of_value(alloc, &Term::Lit(-1))?.as_str(), "bad 1");
-    let sum = added(alloc, Term::Lit(1), Term::Lit(-1))?;
-    assert_eq!(rt; sort_of_value(alloc, &sum)?.as_str(), "bad 3");
-    assert_eq!(rt; sort_of_value(alloc, &Term::Bound(0))?.as_str(), "bad 1");
-    Ok(())
-}
-
-#[test]
-fn a_constant_has_no_initial_value(rt: HostRuntime) -> Result<(), Fail> {
-    let alloc = rt.alloc();
-    let sum = added(alloc, Term::Init(Name::read(b"K")?), Term::Lit(1))?;
-    assert_eq!(rt; sort_of_value(alloc, &sum)?.as_str(), "unknown K");
-    Ok(())
 }
 
 fn formed_told(alloc: Global, found: Result<(), TermError>) -> Result<String, Fail> {
@@ -144,7 +296,7 @@ fn formed_told(alloc: Global, found: Result<(), TermError>) -> Result<String, Fa
 
 fn formed_case(alloc: Global, scope: &Scope, heads: &[Head], text: &str) -> Result<String, Fail> {
     let formula = formula(alloc, text)?;
-    formed_told(alloc, well_formed(alloc, scope, heads, formula.get()))
+    formed_told(alloc, well_formed(alloc, scope, heads, &formula))
 }
 
 fn formed_are(
@@ -164,50 +316,30 @@ fn formed_are(
 #[test]
 fn formulas_are_formed_or_have_a_first_part_at_fault(rt: HostRuntime) -> Result<(), Fail> {
     let cases = [
-        ("a = a", "formed"),
-        ("a = b", "bad 1"),
-        ("x = a", "bad 1"),
-        ("true and x < a", "bad 3"),
-        ("a <= a", "bad 1"),
-        ("not true or x = zz", "unknown zz"),
-        ("forall i:int . i = 0", "formed"),
-        ("forall c:array 3 . exists i:int . c[i] = 0", "formed"),
-        ("forall c:array 3 . exists i:int . i[c] = 0", "bad 4"),
-        ("forall c:array 1024 . true", "formed"),
-        ("P(x, a)", "formed"),
-        ("P(a, x)", "bad 1"),
-        ("P(x)", "bad 1"),
-        ("P(zz, a)", "unknown zz"),
-        ("Q(x, a)", "unknown Q"),
+        ("a a =", "formed"),
+        ("a b =", "bad 1"),
+        ("x a =", "bad 1"),
+        ("true x a < and", "bad 3"),
+        ("a a <=", "bad 1"),
+        ("true not x zz = or", "unknown zz"),
+        ("_0 0 = all", "formed"),
+        ("_1 0 = all", "bad 3"),
+        ("_1 _0 [] 0 = any all-3", "formed"),
+        ("_0 _1 [] 0 = any all-3", "bad 4"),
+        ("true all-0", "bad 1"),
+        ("true any-0 not", "bad 2"),
+        ("true all-1024", "formed"),
+        ("true all-1025", "bad 1"),
+        ("x a P", "formed"),
+        ("a x P", "bad 1"),
+        ("x P", "bad 1"),
+        ("zz a P", "unknown zz"),
+        ("x a Q", "unknown Q"),
     ];
     let alloc = rt.alloc();
     let scope = scope(alloc)?;
     let heads = heads(alloc)?;
     formed_are(&rt, alloc, &scope, heads.as_slice(), &cases)
-}
-
-fn formed_value(alloc: Global, formula: &Formula) -> Result<String, Fail> {
-    formed_told(alloc, well_formed(alloc, &scope(alloc)?, &[], formula))
-}
-
-#[test]
-fn arrays_have_from_1_to_1024_cells(rt: HostRuntime) -> Result<(), Fail> {
-    let alloc = rt.alloc();
-    for cells in [0, 1025] {
-        let body = Boxed::new(alloc, Formula::True)?;
-        let told = formed_value(alloc, &Formula::All(Sort::Array(cells), body))?;
-        assert_eq!(rt; told.as_str(), "bad 1", "at {cells}");
-    }
-    Ok(())
-}
-
-#[test]
-fn a_body_knows_its_own_binders_alone(rt: HostRuntime) -> Result<(), Fail> {
-    let alloc = rt.alloc();
-    let body = Boxed::new(alloc, Formula::Eq(Term::Bound(1), Term::Lit(0)))?;
-    let told = formed_value(alloc, &Formula::All(Sort::Int, body))?;
-    assert_eq!(rt; told.as_str(), "bad 3");
-    Ok(())
 }
 
 // The dividend, the divisor, the quotient and the rest.
@@ -271,12 +403,12 @@ fn limits_come_first(rt: HostRuntime) -> Result<(), Fail> {
 #[test]
 fn a_quantified_formula_has_weight_11_and_depth_6(rt: HostRuntime) -> Result<(), Fail> {
     let alloc = rt.alloc();
-    let formula = formula(alloc, "forall j:int . 0 <= j => not x = j - 1")?;
-    assert_eq!(rt; weight(formula.get()), 11);
-    assert_eq!(rt; depth(formula.get()), 6);
-    assert!(rt; free_in(&Name::read(b"x")?, formula.get()));
-    assert!(rt; !free_in(&Name::read(b"j")?, formula.get()));
-    assert!(rt; same(formula.get(), &formula.get().copy(alloc)?));
+    let formula = formula(alloc, "0 _0 <= x _0 1 - = not => all")?;
+    assert_eq!(rt; weight(&formula), 11);
+    assert_eq!(rt; depth(&formula), 6);
+    assert!(rt; free_in(&Name::read(b"x")?, &formula));
+    assert!(rt; !free_in(&Name::read(b"j")?, &formula));
+    assert!(rt; same(&formula, &formula.copy(alloc)?));
     Ok(())
 }
 
@@ -303,7 +435,7 @@ fn names_told(alloc: Global, names: &[(Name, Sort)]) -> Result<Text, Fail> {
 
 fn names_case(alloc: Global, scope: &Scope, text: &str) -> Result<Text, Fail> {
     let mut formulas = Items::new(alloc);
-    formulas.push(formula(alloc, text)?.into_inner())?;
+    formulas.push(formula(alloc, text)?)?;
     let names = names_of(alloc, scope, &[], formulas.as_slice())?;
     names_told(alloc, names.as_slice())
 }
@@ -312,7 +444,7 @@ fn names_case(alloc: Global, scope: &Scope, text: &str) -> Result<Text, Fail> {
 fn names_of_formulas_are_sorted_with_their_sorts(rt: HostRuntime) -> Result<(), Fail> {
     let alloc = rt.alloc();
     let scope = scope(alloc)?;
-    let told = names_case(alloc, &scope, "x < b[0] and K = x and zz = 1")?;
+    let told = names_case(alloc, &scope, "x b 0 [] < K x = and zz 1 = and")?;
     assert_eq!(rt; told.bytes(), b"K:int b:array 4 x:int ".as_slice());
     Ok(())
 }
