@@ -1,0 +1,4 @@
+pub mod Seen
+pub mod Given
+pub mod Derived
+pub mod Weight

@@ -1,0 +1,2 @@
+pub mod Procs
+pub mod Modules
