@@ -1,0 +1,5 @@
+//! Examples of modules and their concrete heads, worked by hand.
+#![tactic(auto)]
+
+#[cfg(test)]
+mod heads;

@@ -1,0 +1,5 @@
+pub mod Quantified
+pub mod Heads
+pub mod Sizes
+pub mod Refusals
+pub mod Laws
