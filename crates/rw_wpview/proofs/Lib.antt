@@ -1,0 +1,5 @@
+pub mod Rows
+pub mod Weights
+pub mod Large
+pub mod Owing
+pub mod Judging
