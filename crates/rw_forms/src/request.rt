@@ -22,6 +22,8 @@ pub enum Request {
     StatusAll,
     /// The specification and the obligations of a node.
     Goal(Place),
+    /// Arithmetic lines for the obligation of this number of a node.
+    Find(Place, u32),
 }
 
 /// Why a text is not read.

@@ -158,7 +158,8 @@ pub fn push_terms(text: &mut Text, terms: &[Term]) -> Result<(), AllocError>
     Ok(())
 }
 
-fn push_lin(text: &mut Text, lines: &[LinLine]) -> Result<(), AllocError>
+/// Writes arithmetic lines, `lin [1*L1 + -2*R1] [3/2]`, behind a text.
+pub fn push_lin(text: &mut Text, lines: &[LinLine]) -> Result<(), AllocError>
     ensures { OnOk result (text.new ≡ text.old ++ lin_text lines.now) }
 {
     text.push_str("lin")?;

@@ -10,7 +10,7 @@ mod pieces;
 mod printing;
 mod terms;
 
-pub use certificates::{push_cert, push_terms};
+pub use certificates::{push_cert, push_lin, push_terms};
 pub use formulas::push_formula;
 pub use pieces::{push_sort, push_word};
 pub use printing::{

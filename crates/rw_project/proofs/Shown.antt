@@ -16,6 +16,7 @@ use Rattle.rw_anew.specs.declared.status.Status.TheVariants as status
 use Rattle.rw_tree.specs.Accepting.{refusal_of, IsGood}
 use Rattle.rw_anew.specs.Anew.{anew}
 use Rattle.rw_anew.specs.declared.status.LemmaMark.{LemmaMark}
+use Rattle.rw_anew.specs.declared.status.Need.{Need}
 use Rattle.rw_anew.specs.declared.status.NeedState.{NeedState}
 use Rattle.rw_anew.specs.declared.status.NeedState.TheVariants as need
 use Rattle.rw_anew.specs.Uses.{used_lemmas, IsClosed}
@@ -25,9 +26,13 @@ use Rattle.rw_nodes.specs.declared.edit.Place.{Place}
 use Rattle.rw_forms.specs.declared.request.Request.{Request}
 use Rattle.rw_forms.specs.declared.request.Request.TheVariants as request
 use Rattle.rw_reader.specs.Reading.{Reading, reads, fault, reading}
+use Rattle.rw_finder.specs.declared.find.Found.{Found}
+use Rattle.rw_finder.specs.declared.find.Found.TheVariants as found
+use Rattle.rw_finder.specs.Finding.{found_of}
+use Rattle.rw_found_texts.specs.Texts.{found_text}
 use Rattle.rw_project.specs.Texts.{tree_text, kids_text, status_text, refusal_text, is_good, is_good_state, closed_text, not_closed_text, lemma_open_text, lemmas_text, closing_text}
-use Rattle.rw_project.specs.Goals.{goal_texts, mark_of, lemma_of}
-use Rattle.rw_project.specs.Session.{History, most_weight, no_history, past_limits, refusal_after, edited, told_of, told_lemma, closing_of, no_lines, reply, reply_by, reply_to, is_silent, after, history_from, history_of}
+use Rattle.rw_project.specs.Goals.{goal_texts, mark_of, need_of, lemma_of}
+use Rattle.rw_project.specs.Session.{History, most_weight, no_history, past_limits, refusal_after, edited, told_of, told_lemma, told_need, told_found, closing_of, no_lines, reply, reply_by, reply_to, is_silent, after, history_from, history_of}
 use Rattle.rw_project.specs.Headline.{AsksStatus, StatusIsAnew, Headline}
 
 -- what is told of the first node that is not good is no text of a closed derivation
@@ -100,6 +105,14 @@ good_lemma : (history : History) (x : List ℕ) (o : Option LemmaMark) → IsGoo
 good_lemma history x None good = good
 good_lemma history x (Some mark) good = good
 
+good_need : (history : History) (k : ℕ) (o : Option Need) → IsGood most_weight history.0 → IsGood most_weight (told_need history k o).after.0
+good_need history k None good = good
+good_need history k (Some need) good = good
+
+good_found : (history : History) (place : Place) (k : ℕ) (o : Option NodeMark) → IsGood most_weight history.0 → IsGood most_weight (told_found history place k o).after.0
+good_found history place k None good = good
+good_found history place k (Some mark) good = good_need history k (need_of k mark.needs) good
+
 good_reply : (history : History) (bytes : ℕ) (r : Reading) → IsGood most_weight history.0 → IsGood most_weight (reply_by history bytes r).after.0
 good_reply history bytes (reads (request.Edit e)) good = good_edited history bytes e (refusal_after history bytes e) refl good
 good_reply history bytes (reads request.Status) good = good
@@ -107,6 +120,7 @@ good_reply history bytes (reads (request.StatusAt place)) good = good_shown hist
 good_reply history bytes (reads (request.StatusLemma x)) good = good_lemma history x (lemma_of x (anew history.0).lemmas) good
 good_reply history bytes (reads request.StatusAll) good = good
 good_reply history bytes (reads (request.Goal place)) good = good_shown history place goal_texts (mark_of place (anew history.0).nodes) good
+good_reply history bytes (reads (request.Find place k)) good = good_found history place k (mark_of place (anew history.0).nodes) good
 good_reply history bytes (fault offset) good = good
 
 good_after : (history : History) (line : List ℕ) → IsGood most_weight history.0 → IsGood most_weight (after history line).0
@@ -196,6 +210,20 @@ lemma_differs : (history : History) (x : List ℕ) (o : Option LemmaMark) → (t
 lemma_differs history x None e = refusal_differs (refusal.Unknown x) e
 lemma_differs history x (Some mark) e = let is = fourth_is 108 _ e in absurd (omega (arith, is))
 
+found_differs : (f : Found) → found_text f ≡ closed_text → ⊥
+found_differs (found.Lines lines) e = let is = fourth_is 102 _ e in absurd (omega (arith, is))
+found_differs (found.Point values) e = let is = fourth_is 112 _ e in absurd (omega (arith, is))
+found_differs (found.Wide k) e = let is = fourth_is 119 _ e in absurd (omega (arith, is))
+found_differs found.Many e = let is = fourth_is 109 _ e in absurd (omega (arith, is))
+
+need_differs : (history : History) (k : ℕ) (o : Option Need) → (told_need history k o).end ≡ closed_text → ⊥
+need_differs history k None e = refusal_differs (refusal.NoObligation k) e
+need_differs history k (Some need) e = found_differs (found_of need.sequent) e
+
+finding_differs : (history : History) (place : Place) (k : ℕ) (o : Option NodeMark) → (told_found history place k o).end ≡ closed_text → ⊥
+finding_differs history place k None e = refusal_differs (refusal.NoNode place) e
+finding_differs history place k (Some mark) e = need_differs history k (need_of k mark.needs) e
+
 only_asked : (history : History) (line : List ℕ) → (reply history line).end ≡ closed_text → AsksStatus line
 unfolding reply
 only_asked history line e = go (reading line) refl e
@@ -208,6 +236,7 @@ only_asked history line e = go (reading line) refl e
     go (reads (request.StatusAt place)) is e = absurd (told_differs history place no_lines (mark_of place (anew history.0).nodes) e)
     go (reads (request.StatusLemma x)) is e = absurd (lemma_differs history x (lemma_of x (anew history.0).lemmas) e)
     go (reads (request.Goal place)) is e = absurd (told_differs history place goal_texts (mark_of place (anew history.0).nodes) e)
+    go (reads (request.Find place k)) is e = absurd (finding_differs history place k (mark_of place (anew history.0).nodes) e)
 
 pub status_anew : (history : History) (line : List ℕ) → IsGood most_weight history.0 → StatusIsAnew history line
 status_anew history line good = record {
@@ -218,6 +247,7 @@ status_anew history line good = record {
   lemma = λ x asks. reply_told history line (request.StatusLemma x) asks;
   each = λ asks. reply_told history line request.StatusAll asks;
   goal = λ place asks. reply_told history line (request.Goal place) asks;
+  found = λ place k asks. reply_told history line (request.Find place k) asks;
   refined = λ shows. closed_refined most_weight history.0 good ((closed_exactly history.0).0 (sym (status_told history line (only_asked history line shows)) ∙ shows));
 }
 

@@ -1,5 +1,5 @@
 -- What is told of one node, and of all.
-use Rattle.std.specs.Prelude.{ℕ, ◌+◌, Bool, if◌then◌else◌, List, [], ◌∷◌, ◌++◌, Option, Some, None, codes, decimal, bytes_eq}
+use Rattle.std.specs.Prelude.{ℕ, zero, suc, ◌+◌, Bool, if◌then◌else◌, List, [], ◌∷◌, ◌++◌, Option, Some, None, codes, decimal, bytes_eq, slice_get}
 use Rattle.rw_programs.specs.declared.prog.Spec.{Spec}
 use Rattle.rw_nodes.specs.declared.edit.Place.{Place}
 use Rattle.rw_anew.specs.declared.status.Need.{Need}
@@ -40,6 +40,11 @@ lemma_of x (m ∷ marks) = if bytes_eq m.name x then Some m else lemma_of x mark
 -- a node's specification, where it has one, and its obligations
 abbrev pub goal_texts : NodeMark → List (List ℕ)
 goal_texts m = spec_texts m.spec ++ needs_texts 1 m.needs
+
+-- the obligation of a number, if there is one
+abbrev pub need_of : ℕ → List Need → Option Need
+need_of zero needs = None
+need_of (suc n) needs = slice_get needs n
 
 -- whether a node is at a place; each place is one of the main tree, so its kid numbers tell
 abbrev pub is_at : Place → NodeMark → Bool

@@ -3,6 +3,7 @@ use Rattle.std.specs.Prelude.{ℕ, ◌==◌, ◌||◌, ◌+◌, Bool, true, fals
 use Rattle.std.specs.List.{list_all}
 use Rattle.rw_nodes.specs.declared.edit.Edit.{Edit}
 use Rattle.rw_nodes.specs.declared.edit.Place.{Place}
+use Rattle.rw_anew.specs.declared.status.Need.{Need}
 use Rattle.rw_anew.specs.declared.status.NodeMark.{NodeMark}
 use Rattle.rw_refusals.specs.declared.refusal.EditRefusal.{EditRefusal}
 use Rattle.rw_refusals.specs.declared.refusal.EditRefusal.TheVariants as refusal
@@ -15,8 +16,10 @@ use Rattle.rw_anew.specs.Uses.{used_lemmas}
 use Rattle.rw_forms.specs.declared.request.Request.{Request}
 use Rattle.rw_forms.specs.declared.request.Request.TheVariants as request
 use Rattle.rw_reader.specs.Reading.{Reading, reads, fault, reading}
+use Rattle.rw_finder.specs.Finding.{found_of}
+use Rattle.rw_found_texts.specs.Texts.{found_lines, found_text}
 use Rattle.rw_project.specs.Texts.{accepted_text, refusal_text, syntax_text, lemma_text, closing_text}
-use Rattle.rw_project.specs.Goals.{mark_text, node_text, goal_texts, mark_of, lemma_told_text, lemma_of}
+use Rattle.rw_project.specs.Goals.{mark_text, node_text, goal_texts, mark_of, need_of, lemma_told_text, lemma_of}
 
 -- the live edits, the newest first, and how many bytes the lines of all accepted edits had
 abbrev pub History : Type 0
@@ -88,6 +91,16 @@ abbrev pub told_lemma : History → List ℕ → Option LemmaMark → Reply
 told_lemma history x None = record { after = history; lines = []; end = refusal_text (refusal.Unknown x); refused = true }
 told_lemma history x (Some mark) = told history [] (lemma_told_text mark)
 
+-- what is found for an obligation of this number, if there is one
+abbrev pub told_need : History → ℕ → Option Need → Reply
+told_need history k None = record { after = history; lines = []; end = refusal_text (refusal.NoObligation k); refused = true }
+told_need history k (Some need) = told history (found_lines (found_of need.sequent)) (found_text (found_of need.sequent))
+
+-- what is found for an obligation of the node at a place, if one is there
+abbrev pub told_found : History → Place → ℕ → Option NodeMark → Reply
+told_found history place k None = record { after = history; lines = []; end = refusal_text (refusal.NoNode place); refused = true }
+told_found history place k (Some mark) = told_need history k (need_of k mark.needs)
+
 -- closed, or the first that is not good, as checking the live edits anew tells
 abbrev pub closing_of : List Edit → List ℕ
 closing_of l = closing_text (anew l).nodes (used_lemmas l)
@@ -107,6 +120,7 @@ reply_to history bytes (request.StatusAt place) = told_of history place no_lines
 reply_to history bytes (request.StatusLemma x) = told_lemma history x (lemma_of x (anew history.0).lemmas)
 reply_to history bytes request.StatusAll = told history (all_texts history.0) (closing_of history.0)
 reply_to history bytes (request.Goal place) = told_of history place goal_texts (mark_of place (anew history.0).nodes)
+reply_to history bytes (request.Find place k) = told_found history place k (mark_of place (anew history.0).nodes)
 
 abbrev pub reply_by : History → ℕ → Reading → Reply
 reply_by history bytes (reads r) = reply_to history bytes r

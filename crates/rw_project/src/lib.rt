@@ -1,6 +1,7 @@
 //! A project behind its lines: each request line gets the reply that its live edits, checked anew, are owed.
 #![tactic(auto)]
 
+mod finding;
 mod goals;
 mod laws;
 mod project;

@@ -7,11 +7,12 @@ ghost use Rattle.rw_nodes.specs.Parts.{Makes};
 ghost use Rattle.rw_tree.specs.Accepting.{refusal_of, IsGood, IsProject};
 ghost use Rattle.rw_anew.specs.Anew.{anew};
 ghost use Rattle.rw_project.specs.Texts.{syntax_text, refusal_text};
-ghost use Rattle.rw_project.specs.Goals.{goal_texts, mark_of, lemma_of};
-ghost use Rattle.rw_project.specs.Session.{reply, edited, told_of, told_lemma, closing_of, all_texts, no_lines, refusal_after, past_limits, no_history};
+ghost use Rattle.rw_project.specs.Goals.{goal_texts, mark_of, need_of, lemma_of};
+ghost use Rattle.rw_project.specs.Session.{reply, edited, told_of, told_lemma, told_need, told_found, closing_of, all_texts, no_lines, refusal_after, past_limits, no_history};
 ghost use Rattle.rw_project.specs.Headline.{StatusIsAnew};
 ghost use Rattle.rw_project.specs.declared.project.ProjectError.TheVariants.{Memory};
 
+use crate::finding::find_need;
 use crate::goals::{
     goal_texts, lemma_of, lemma_told_text, mark_of, mark_texts, node_text, push_lemmas,
 };
@@ -21,6 +22,7 @@ use crate::texts::{
 use rw_anew::anew::check_anew;
 use rw_anew::status::Statuses;
 use rw_anew::uses::used_lemmas;
+use rw_finder::find::FindError;
 use rw_forms::request::{ReadError, Request};
 use rw_items::Items;
 use rw_nodes::edit::{Edit, Place};
@@ -94,6 +96,14 @@ impl From<TreeError> for ProjectError {
     }
 }
 
+impl From<FindError> for ProjectError {
+    ghost from_gives = { λ _ e. e ≡ Memory };
+
+    fn from(_: FindError) -> ProjectError {
+        ProjectError::Memory
+    }
+}
+
 /// What is written for a request: body lines, the last line, and whether it is a refusal.
 #[derive(Drop)]
 pub struct Reply {
@@ -141,6 +151,7 @@ impl Project {
             Ok(Request::StatusLemma(name)) => self.tell_lemma(&name, steps),
             Ok(Request::StatusAll) => self.tell_all(steps),
             Ok(Request::Goal(place)) => self.tell_goal(&place, steps),
+            Ok(Request::Find(place, number)) => self.find_lines(&place, number, steps),
             Err(ReadError::Syntax(offset)) => self.misread(offset),
             Err(ReadError::Memory) => Err(ProjectError::Memory),
         }
@@ -293,6 +304,24 @@ impl Project {
                     refused: false,
                 })
             }
+            None => no_node(self.alloc, place),
+        }
+    }
+
+    // The reply to a request for arithmetic lines for an obligation of a node.
+    fn find_lines<L: Ledger>(
+        &self,
+        place: &Place,
+        number: u32,
+        steps: &mut Steps<L>,
+    ) -> Result<Reply, ProjectError>
+        ensures lines { IfOk result (λ r. r.lines ≡ (told_found self.now place.now number (mark_of place.now (anew self.now.0).nodes)).lines) }
+        ensures end { IfOk result (λ r. r.end ≡ (told_found self.now place.now number (mark_of place.now (anew self.now.0).nodes)).end) }
+        ensures refused { IfOk result (λ r. r.refused ≡ (told_found self.now place.now number (mark_of place.now (anew self.now.0).nodes)).refused) }
+    {
+        let statuses = self.statuses(steps)?;
+        match mark_of(place, statuses.nodes.as_slice()) {
+            Some(mark) => find_need(self.alloc, number, mark.needs.as_slice()),
             None => no_node(self.alloc, place),
         }
     }

@@ -122,6 +122,16 @@ pub fn no_node_text(alloc: Global, place: &Place) -> Result<Text, AllocError>
     Ok(text)
 }
 
+/// What is answered where no obligation has the number.
+pub fn no_obligation_text(alloc: Global, number: u32) -> Result<Text, AllocError>
+    ensures { IfOk result (λ text. text ≡ refusal_text (EditRefusal.NoObligation number)) }
+{
+    let mut text = Text::new(alloc);
+    text.push_str("E6 no obligation ")?;
+    text.push_number(number as u64)?;
+    Ok(text)
+}
+
 /// What is answered where no lemma has the name.
 pub fn unknown_text(alloc: Global, name: &Name) -> Result<Text, AllocError>
     ensures { IfOk result (λ text. text ≡ refusal_text (EditRefusal.Unknown name.now)) }

@@ -11,7 +11,7 @@ use Rattle.rw_forms.specs.Forms.{Given, a_request, a_cert, gives, takes, either,
 use Rattle.rw_forms.specs.Phrases.{mark, formula, place, right_side}
 use Rattle.rw_forms.specs.Certificates.{cert, cert_form}
 use Rattle.rw_reader.specs.Steps.{step, named_step, constant_step, loop_step}
-use Rattle.rw_reader.specs.Requests.{asks, var_form, root_form, step_form, prove_form, define_form, lemma_of, statement, lemma_form, drop_form, status_form, goal_form, request_form}
+use Rattle.rw_reader.specs.Requests.{asks, var_form, root_form, step_form, prove_form, define_form, lemma_of, statement, lemma_form, drop_form, status_form, goal_form, find_form, request_form}
 use Rattle.rw_forms.proofs.Grammar.{Keeps}
 use Rattle.rw_forms.proofs.Texts.{nothing}
 use Rattle.rw_forms.proofs.Keeping.{sort_keeps, formula_keeps, spec_keeps, kids_keep, place_keeps, left_side_keeps, right_side_keeps, closed_parameters_keep, some_parameters_keep}
@@ -87,6 +87,10 @@ goal_keeps : Keeps IsRequest nothing goal_form
 unfolding goal_form
 goal_keeps = place_keeps IsRequest nothing (λ p. asks (requests.Goal p)) (λ p. refl) (λ p. (_, refl))
 
+find_keeps : Keeps IsRequest nothing find_form
+unfolding find_form
+find_keeps = place_keeps IsRequest nothing (λ p. takes (a_number 0 4294967295) (λ n. asks (requests.Find p n))) (λ p. refl) (λ p. (refl, λ n. (_, refl)))
+
 pub requests_keep : Keeps IsRequest nothing request_form
 unfolding request_form
-requests_keep = (refl, var_keeps, (refl, root_keeps, (refl, step_form_keeps, (refl, prove_keeps, (refl, status_keeps, (refl, define_keeps, (refl, lemma_form_keeps, (refl, drop_keeps, (refl, λ x. goal_keeps)))))))))
+requests_keep = (refl, var_keeps, (refl, root_keeps, (refl, step_form_keeps, (refl, prove_keeps, (refl, status_keeps, (refl, define_keeps, (refl, lemma_form_keeps, (refl, drop_keeps, (refl, find_keeps, (refl, λ x. goal_keeps))))))))))

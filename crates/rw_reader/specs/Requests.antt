@@ -64,8 +64,13 @@ status_form = either (codes "all") (asks requests.StatusAll) (either (codes "mai
 unfoldable pub goal_form : Form
 goal_form = place (λ p. asks (requests.Goal p))
 
+-- PLACE NUMBER
+unfoldable pub find_form : Form
+find_form = place (λ p. takes (a_number 0 4294967295) (λ n. asks (requests.Find p n)))
+
 -- every request
 unfoldable pub request_form : Form
 request_form =
     either (codes "var") var_form (either (codes "root") root_form (either (codes "step") step_form (either (codes "prove") prove_form
-    (either (codes "status") status_form (either (codes "define") define_form (either (codes "lemma") lemma_form (either (codes "drop") drop_form (mark (codes "goal") goal_form))))))))
+    (either (codes "status") status_form (either (codes "define") define_form (either (codes "lemma") lemma_form (either (codes "drop") drop_form
+    (either (codes "find") find_form (mark (codes "goal") goal_form)))))))))

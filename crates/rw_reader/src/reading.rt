@@ -1,7 +1,7 @@
 //! Reads requests and certificates.
 
 ghost use Rattle.std.specs.Prelude.{◌≡◌, ℕ, ◌<◌, ◌^◌, ◌⊎◌, length, IfOk, IfErr};
-ghost use Rattle.rw_reader.specs.Requests.{var_form, root_form, step_form, prove_form, status_form, goal_form};
+ghost use Rattle.rw_reader.specs.Requests.{var_form, root_form, step_form, prove_form, status_form, goal_form, find_form};
 ghost use Rattle.rw_reader.specs.Reading.{reading, reads, fault};
 ghost use Rattle.rw_forms.specs.Certificates.{CertSpells, IsCertFault};
 ghost use Rattle.rw_forms.specs.Progress.{IsPlace, Answers};
@@ -51,6 +51,9 @@ pub fn read_request(alloc: Global, line: &[u8]) -> Result<Request, ReadError>
     }
     if accept(line, &mut at, b"drop") {
         return read_drop(line, at);
+    }
+    if accept(line, &mut at, b"find") {
+        return read_find(alloc, line, at);
     }
     expect(line, &mut at, b"goal")?;
     read_goal(alloc, line, at)
@@ -156,4 +159,15 @@ fn read_goal(alloc: Global, line: &[u8], mut at: usize) -> Result<Request, ReadE
     let place = place(alloc, line, &mut at)?;
     end(line, at)?;
     Ok(Request::Goal(place))
+}
+
+// `PLACE NUMBER`
+fn read_find(alloc: Global, line: &[u8], mut at: usize) -> Result<Request, ReadError>
+    requires { IsPlace line.now at }
+    ensures { Answers find_form line.now at result }
+{
+    let place = place(alloc, line, &mut at)?;
+    let number = number(line, &mut at, 0, 4294967295)?;
+    end(line, at)?;
+    Ok(Request::Find(place, number))
 }

@@ -1,7 +1,7 @@
 use Rattle.std.proofs.Common.{◌∙◌, ap}
 use Rattle.std.specs.Prelude.{Err}
 use Rattle.std.proofs.lemmas.Result.{err_from_is_err_and}
-use Rattle.rw_reader.specs.Requests.{request_form, var_form, root_form, step_form, prove_form, status_form, define_form, lemma_form, drop_form, goal_form}
+use Rattle.rw_reader.specs.Requests.{request_form, var_form, root_form, step_form, prove_form, status_form, define_form, lemma_form, drop_form, goal_form, find_form}
 use Rattle.rw_reader.specs.Reading.{told}
 use Rattle.rw_reader.proofs.Lines.{begun, answers_ok, answers_err}
 use Rattle.rw_reader.proofs.reading.read_request.Goals as goal
@@ -54,15 +54,21 @@ returns-then-accept-8 c =
     let h = begun c.args.line.now c.skip-at.result c.skip-at.ensures.place ∙ ap (told c.args.line.now) (c.if-accept.ensures.chose.1 _ _ ∙ c.if-accept-2.ensures.chose.1 _ _ ∙ c.if-accept-3.ensures.chose.1 _ _ ∙ c.if-accept-4.ensures.chose.1 _ _ ∙ c.if-accept-5.ensures.chose.1 _ _ ∙ c.if-accept-6.ensures.chose.1 _ _ ∙ c.if-accept-7.ensures.chose.1 _ _ ∙ c.if-accept-8.ensures.chose.1 _ _) in
     record { ok = answers_ok drop_form c.args.line.now _ c.read_drop.result h c.read_drop.ensures; err = answers_err drop_form c.args.line.now _ c.read_drop.result h c.read_drop.ensures }
 
+pub returns-then-accept-9 : goal.returns-then-accept-9
+unfolding request_form
+returns-then-accept-9 c =
+    let h = begun c.args.line.now c.skip-at.result c.skip-at.ensures.place ∙ ap (told c.args.line.now) (c.if-accept.ensures.chose.1 _ _ ∙ c.if-accept-2.ensures.chose.1 _ _ ∙ c.if-accept-3.ensures.chose.1 _ _ ∙ c.if-accept-4.ensures.chose.1 _ _ ∙ c.if-accept-5.ensures.chose.1 _ _ ∙ c.if-accept-6.ensures.chose.1 _ _ ∙ c.if-accept-7.ensures.chose.1 _ _ ∙ c.if-accept-8.ensures.chose.1 _ _ ∙ c.if-accept-9.ensures.chose.1 _ _) in
+    record { ok = answers_ok find_form c.args.line.now _ c.read_find.result h c.read_find.ensures; err = answers_err find_form c.args.line.now _ c.read_find.result h c.read_find.ensures }
+
 pub returns-in_err-expect : goal.returns-in_err-expect
 unfolding request_form
 returns-in_err-expect c =
-    let h = begun c.args.line.now c.skip-at.result c.skip-at.ensures.place ∙ ap (told c.args.line.now) (c.if-accept.ensures.chose.1 _ _ ∙ c.if-accept-2.ensures.chose.1 _ _ ∙ c.if-accept-3.ensures.chose.1 _ _ ∙ c.if-accept-4.ensures.chose.1 _ _ ∙ c.if-accept-5.ensures.chose.1 _ _ ∙ c.if-accept-6.ensures.chose.1 _ _ ∙ c.if-accept-7.ensures.chose.1 _ _ ∙ c.if-accept-8.ensures.chose.1 _ _) in
+    let h = begun c.args.line.now c.skip-at.result c.skip-at.ensures.place ∙ ap (told c.args.line.now) (c.if-accept.ensures.chose.1 _ _ ∙ c.if-accept-2.ensures.chose.1 _ _ ∙ c.if-accept-3.ensures.chose.1 _ _ ∙ c.if-accept-4.ensures.chose.1 _ _ ∙ c.if-accept-5.ensures.chose.1 _ _ ∙ c.if-accept-6.ensures.chose.1 _ _ ∙ c.if-accept-7.ensures.chose.1 _ _ ∙ c.if-accept-8.ensures.chose.1 _ _ ∙ c.if-accept-9.ensures.chose.1 _ _) in
     let p = err_from_is_err_and c.from_residual.result c.from_residual.ensures.1 in
     rw (p.1, p.2) (record { ok = tt; err = answers_err _ c.args.line.now _ (Err _) h (c.in_err-expect.ensures.took _) })
 
 pub returns : goal.returns
 unfolding request_form
 returns c =
-    let h = begun c.args.line.now c.skip-at.result c.skip-at.ensures.place ∙ ap (told c.args.line.now) (c.if-accept.ensures.chose.1 _ _ ∙ c.if-accept-2.ensures.chose.1 _ _ ∙ c.if-accept-3.ensures.chose.1 _ _ ∙ c.if-accept-4.ensures.chose.1 _ _ ∙ c.if-accept-5.ensures.chose.1 _ _ ∙ c.if-accept-6.ensures.chose.1 _ _ ∙ c.if-accept-7.ensures.chose.1 _ _ ∙ c.if-accept-8.ensures.chose.1 _ _ ∙ c.in_ok-expect.ensures.took.1 _) in
+    let h = begun c.args.line.now c.skip-at.result c.skip-at.ensures.place ∙ ap (told c.args.line.now) (c.if-accept.ensures.chose.1 _ _ ∙ c.if-accept-2.ensures.chose.1 _ _ ∙ c.if-accept-3.ensures.chose.1 _ _ ∙ c.if-accept-4.ensures.chose.1 _ _ ∙ c.if-accept-5.ensures.chose.1 _ _ ∙ c.if-accept-6.ensures.chose.1 _ _ ∙ c.if-accept-7.ensures.chose.1 _ _ ∙ c.if-accept-8.ensures.chose.1 _ _ ∙ c.if-accept-9.ensures.chose.1 _ _ ∙ c.in_ok-expect.ensures.took.1 _) in
     record { ok = answers_ok goal_form c.args.line.now _ c.read_goal.result h c.read_goal.ensures; err = answers_err goal_form c.args.line.now _ c.read_goal.result h c.read_goal.ensures }

@@ -23,3 +23,6 @@ returns-in-Ok-StatusAll-clause-headline g c = status_anew c.args.self.now c.args
 
 pub returns-in-Ok-Goal-clause-headline : goal.returns-in-Ok-Goal-clause-headline
 returns-in-Ok-Goal-clause-headline g c = status_anew c.args.self.now c.args.line.now (subst (λ h. IsGood 2000000 h.0) c.self.view_is c.self.invariant.1)
+
+pub returns-in-Ok-Find-clause-headline : goal.returns-in-Ok-Find-clause-headline
+returns-in-Ok-Find-clause-headline g c = status_anew c.args.self.now c.args.line.now (subst (λ h. IsGood 2000000 h.0) c.self.view_is c.self.invariant.1)
