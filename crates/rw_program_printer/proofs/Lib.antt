@@ -3,3 +3,7 @@ pub mod Tokens
 pub mod SpeltParts
 pub mod Spelt
 pub mod SpeltBlocks
+pub mod SpeltSteps
+pub mod SpeltCalls
+pub mod Yields
+pub mod SpelledPrograms

@@ -53,7 +53,7 @@ joined most p q {a} {b} {c} {d} s e t =
 
 -- words
 
-skip_here : (r : List ℕ) → ends r ≡ true → token_at (codes "skip" ++ r) ≡ Some (text (codes "skip"), skip r)
+pub skip_here : (r : List ℕ) → ends r ≡ true → token_at (codes "skip" ++ r) ≡ Some (text (codes "skip"), skip r)
 skip_here r e = word_front 115 (codes "kip") r refl refl (ends_stops r e)
 
 pub skip_spelt : IsSpelt prog.Skip
@@ -133,7 +133,7 @@ grouped_call f a r = simp append_assoc
 passed_bare : (ts : List Term) (xs : List (List ℕ)) (r : List ℕ) → skip (passed_text ts xs ++ r) ≡ passed_text ts xs ++ r
 passed_bare ts xs r = bare 40 _ refl
 
-passed_in : (most : ℕ) (ts : List Term) (xs : List (List ℕ)) (r : List ℕ) → most ≤ 512 → Inside most (λ m. TermsStayWithin m ts) → readable_terms ts ≡ true → named_terms ts ≡ true → AllGood GoodName xs → Spelt (passed most) (ts, xs) (skip (passed_text ts xs ++ r)) (skip r)
+pub passed_in : (most : ℕ) (ts : List Term) (xs : List (List ℕ)) (r : List ℕ) → most ≤ 512 → Inside most (λ m. TermsStayWithin m ts) → readable_terms ts ≡ true → named_terms ts ≡ true → AllGood GoodName xs → Spelt (passed most) (ts, xs) (skip (passed_text ts xs ++ r)) (skip r)
 unfolding passed
 passed_in zero ts xs r h w p n g = absurd w
 passed_in (suc most) ts xs r h w p n g = spelt_from (passed_bare ts xs r) (passed_ok most ts xs r (omega arith) (good_terms most ts p n w) g)
@@ -172,7 +172,7 @@ operation_spelt m f ts xs a n b o = λ p most h w r e.
 
 -- the text reads back
 
-skip_end : skip [] ≡ []
+pub skip_end : skip [] ≡ []
 unfolding skip
 skip_end = refl
 

@@ -93,7 +93,7 @@ known n h = grind (arith, nat_tests, h)
 grouped_array : (d r : List ℕ) → (codes "array " ++ d) ++ r ≡ codes "array" ++ (32 ∷ (d ++ r))
 grouped_array d r = simp append_assoc
 
-sort_spelt : (s : Sort) (r : List ℕ) → is_sort s ≡ true → ends r ≡ true → IsBare (sort_text s ++ r) × Spelt sort s (sort_text s ++ r) (skip r)
+pub sort_spelt : (s : Sort) (r : List ℕ) → is_sort s ≡ true → ends r ≡ true → IsBare (sort_text s ++ r) × Spelt sort s (sort_text s ++ r) (skip r)
 unfolding sort
 sort_spelt sorts.Int r h e = (bare 105 (codes "nt" ++ r) refl, word_alone sort sorts.Int (codes "int") (word_front 105 (codes "nt") r refl refl (ends_stops r e)) (λ k n rest v i. inl (rest, refl, i)))
 sort_spelt (sorts.Array n) r h e =
@@ -247,12 +247,12 @@ abbrev RowWithin : ℕ → Prog → Type 0
 RowWithin most (If' shape row) = RowStaysWithin most row
 RowWithin most _ = Unit {0}
 
-some_is : (l : List Arm) → some_row (made.If l) ≡ some_of l
+pub some_is : (l : List Arm) → some_row (made.If l) ≡ some_of l
 unfolding Rattle.rw_programs.specs.declared.prog.Prog.TheBlock.hidden-the_row-Arm-1 denote.Hole.Carrier.hidden
 some_is [] = refl
 some_is (a ∷ l) = refl
 
-good_is : (l : List Arm) → good_row (made.If l) ≡ all_of (map readable_arm l)
+pub good_is : (l : List Arm) → good_row (made.If l) ≡ all_of (map readable_arm l)
 unfolding Rattle.rw_programs.specs.declared.prog.Prog.TheBlock.hidden-the_row-Arm-1 denote.Hole.Carrier.hidden
 good_is [] = refl
 good_is (a ∷ l) = ap (λ b. readable_arm a && b) (good_is l)

@@ -13,8 +13,8 @@ use Rattle.rw_syntax.specs.Spelling.{AreWithin}
 use Rattle.rw_syntax.proofs.Choices.{fits_to}
 use Rattle.rw_programs.specs.declared.prog.Pin.{Pin}
 use Rattle.rw_tokens.specs.Tokens.{text, skip, token_at}
-use Rattle.rw_forms.specs.Forms.{a_variable, a_constant, a_name, a_pin, is_lower, is_constant, takes, rest_of, many, fewer, behind}
-use Rattle.rw_forms.specs.Phrases.{mark, formula, term, terms, names, name_form, name_in}
+use Rattle.rw_forms.specs.Forms.{a_variable, a_constant, a_name, a_pin, is_lower, is_constant, Form, takes, rest_of, many, fewer, behind}
+use Rattle.rw_forms.specs.Phrases.{mark, formula, term, terms, names, name_form, name_in, constants, constant_form}
 use Rattle.rw_printer.specs.Trees.{formula_tree}
 use Rattle.rw_printer.specs.Layout.{printed_term, printed_formula, listed, names_text}
 use Rattle.rw_printer.specs.Lines.{terms_text}
@@ -73,10 +73,6 @@ good_names (x ∷ xs) p n =
     let m = and_parts (is_name x) (named_names xs) n in
     (record { lower = q.0; name = m.0 }, good_names xs q.1 m.1)
 
-name_item : (x : List ℕ) → GoodName x → (r : List ℕ) → stops r ≡ true → Item name_form (a_name x) (x ++ r) (skip r)
-unfolding name_form
-name_item x g r e = item (takes a_variable) a_name x (variable_spelt x r g.name g.lower e)
-
 rest_stops : (xs : List (List ℕ)) (r : List ℕ) → stops r ≡ true → stops (listed (codes ",") (codes ",") xs ++ r) ≡ true
 rest_stops [] r e = e
 rest_stops (x ∷ xs) r e = refl
@@ -84,33 +80,45 @@ rest_stops (x ∷ xs) r e = refl
 grouped_more : (x l r : List ℕ) → (codes "," ++ x ++ l) ++ r ≡ 44 ∷ (x ++ (l ++ r))
 grouped_more x l r = simp append_assoc
 
+-- how the names of a list are read, each as an item
+record Names (f : Form) (Good : List ℕ → Type 0) : Type 0 where
+  name : (x : List ℕ) → Good x → is_name x ≡ true
+  one : (x : List ℕ) → Good x → (r : List ℕ) → stops r ≡ true → Item f (a_name x) (x ++ r) (skip r)
+
 -- names behind commas
-rest_names : (xs : List (List ℕ)) → AllGood GoodName xs → (r : List ℕ) → stops r ≡ true → More name_form (codes ",") (map a_name xs) (skip (listed (codes ",") (codes ",") xs ++ r)) (skip r)
-rest_names [] g r e = record { tokens = []; leads = refl; are = λ n. refl }
-rest_names (x ∷ xs) g r e =
+rest_names : (f : Form) (Good : List ℕ → Type 0) → Names f Good → (xs : List (List ℕ)) → AllGood Good xs → (r : List ℕ) → stops r ≡ true → More f (codes ",") (map a_name xs) (skip (listed (codes ",") (codes ",") xs ++ r)) (skip r)
+rest_names f Good w [] g r e = record { tokens = []; leads = refl; are = λ n. refl }
+rest_names f Good w (x ∷ xs) g r e =
     let l = listed (codes ",") (codes ",") xs in
     let y = x ++ (l ++ r) in
-    let i = name_item x g.0 (l ++ r) (rest_stops xs r e) in
-    let m = rest_names xs g.1 r e in
-    subst (λ b. More name_form (codes ",") (map a_name (x ∷ xs)) (skip b) (skip r)) (sym (grouped_more x l r))
+    let i = w.one x g.0 (l ++ r) (rest_stops xs r e) in
+    let m = rest_names f Good w xs g.1 r e in
+    subst (λ b. More f (codes ",") (map a_name (x ∷ xs)) (skip b) (skip r)) (sym (grouped_more x l r))
     (record {
       tokens = text (codes ",") ∷ (i.tokens ++ m.tokens);
-      leads = (y, comma y (skip_start y (starts_with x (l ++ r) (name_starts x g.0.name))), leads_join y i.tokens (skip (l ++ r)) m.tokens (skip r) i.leads m.leads);
+      leads = (y, comma y (skip_start y (starts_with x (l ++ r) (name_starts x (w.name x g.0)))), leads_join y i.tokens (skip (l ++ r)) m.tokens (skip r) i.leads m.leads);
       are = λ n. (i.tokens, m.tokens, refl, i.is (fewer n), m.are (behind (fewer n) i.tokens));
     })
 
-pub names_ok : (xs : List (List ℕ)) (r : List ℕ) → some_of xs ≡ true → AllGood GoodName xs → stops r ≡ true → IsBare (names_text xs ++ r) × Spelt names xs (names_text xs ++ r) (skip r)
-unfolding names
-names_ok [] r s g e = absurd (true≢false (sym s))
-names_ok (x ∷ xs) r s g e =
+listed_ok : (f : Form) (Good : List ℕ → Type 0) → Names f Good → (xs : List (List ℕ)) (r : List ℕ) → some_of xs ≡ true → AllGood Good xs → stops r ≡ true → IsBare (names_text xs ++ r) × Spelt (λ k. many f (codes ",") (λ gs. k (map name_in gs))) xs (names_text xs ++ r) (skip r)
+listed_ok f Good w [] r s g e = absurd (true≢false (sym s))
+listed_ok f Good w (x ∷ xs) r s g e =
     let z = listed_first (codes ",") x xs r in
     let l = listed (codes ",") (codes ",") xs in (
-      subst IsBare (sym z) (skip_start _ (starts_with x _ (name_starts x g.0.name))),
+      subst IsBare (sym z) (skip_start _ (starts_with x _ (name_starts x (w.name x g.0)))),
       spelt_from z (spelt_as (unwrapped a_name name_in (x ∷ xs) (λ y. refl))
-          (mapped (λ k. many name_form (codes ",") k) (map name_in) (map a_name (x ∷ xs)) (many_spelt name_form (codes ",") (a_name x) (map a_name xs) (name_item x g.0 (l ++ r) (rest_stops xs r e)) (rest_names xs g.1 r e)))),
+          (mapped (λ k. many f (codes ",") k) (map name_in) (map a_name (x ∷ xs)) (many_spelt f (codes ",") (a_name x) (map a_name xs) (w.one x g.0 (l ++ r) (rest_stops xs r e)) (rest_names f Good w xs g.1 r e)))),
     )
 
--- pins
+name_item : (x : List ℕ) → GoodName x → (r : List ℕ) → stops r ≡ true → Item name_form (a_name x) (x ++ r) (skip r)
+unfolding name_form
+name_item x g r e = item (takes a_variable) a_name x (variable_spelt x r g.name g.lower e)
+
+pub names_ok : (xs : List (List ℕ)) (r : List ℕ) → some_of xs ≡ true → AllGood GoodName xs → stops r ≡ true → IsBare (names_text xs ++ r) × Spelt names xs (names_text xs ++ r) (skip r)
+unfolding names
+names_ok xs r s g e = listed_ok name_form GoodName (record { name = λ x h. h.name; one = name_item }) xs r s g e
+
+-- constants
 
 not_lower : (b : ℕ) → leb b 90 ≡ true → not (leb 97 b) ≡ true
 not_lower b u = grind (arith, nat_tests, u)
@@ -121,8 +129,29 @@ constant w n u =
     let p = name_parts w n in
     ap (λ b. b && not (is_lower w)) n ∙ subst (λ x. not (is_lower x) ≡ true) (sym p.is) (not_lower p.first (subst (λ x. is_upper x ≡ true) p.is u))
 
-constant_spelt : (w r : List ℕ) → is_name w ≡ true → is_upper w ≡ true → stops r ≡ true → Spelt (takes a_constant) w (w ++ r) (skip r)
+pub constant_spelt : (w r : List ℕ) → is_name w ≡ true → is_upper w ≡ true → stops r ≡ true → Spelt (takes a_constant) w (w ++ r) (skip r)
 constant_spelt w r n u e = slot_spelt a_constant w (w ++ r) (skip r) (text w) (name_token w r n e) (ap (λ b. cond b (Some w) None) (constant w n u))
+
+pub record GoodConstant (x : List ℕ) : Type 0 where
+  pub upper : is_upper x ≡ true
+  pub name : is_name x ≡ true
+
+pub good_constants : (xs : List (List ℕ)) → all_of (map is_upper xs) ≡ true → named_names xs ≡ true → AllGood GoodConstant xs
+good_constants [] p n = tt
+good_constants (x ∷ xs) p n =
+    let q = and_parts (is_upper x) (all_of (map is_upper xs)) p in
+    let m = and_parts (is_name x) (named_names xs) n in
+    (record { upper = q.0; name = m.0 }, good_constants xs q.1 m.1)
+
+constant_item : (x : List ℕ) → GoodConstant x → (r : List ℕ) → stops r ≡ true → Item constant_form (a_name x) (x ++ r) (skip r)
+unfolding constant_form
+constant_item x g r e = item (takes a_constant) a_name x (constant_spelt x r g.name g.upper e)
+
+pub constants_ok : (xs : List (List ℕ)) (r : List ℕ) → some_of xs ≡ true → AllGood GoodConstant xs → stops r ≡ true → IsBare (names_text xs ++ r) × Spelt constants xs (names_text xs ++ r) (skip r)
+unfolding constants
+constants_ok xs r s g e = listed_ok constant_form GoodConstant (record { name = λ x h. h.name; one = constant_item }) xs r s g e
+
+-- pins
 
 pub record GoodPin (most : ℕ) (p : Pin) : Type 0 where
   pub upper : is_upper p.name ≡ true

@@ -59,6 +59,10 @@ pub equals : (y : List ℕ) → IsBare y → token_at (skip (32 ∷ 61 ∷ 32 �
 unfolding token_at front_token doubles singles
 equals y s = ap token_at (before 61 (32 ∷ y) refl) ∙ bare_behind (codes "=") (61 ∷ 32 ∷ y) y s refl
 
+pub bar : (y : List ℕ) → IsBare y → token_at (skip (32 ∷ 124 ∷ 32 ∷ y)) ≡ Some (text (codes "|"), y)
+unfolding token_at front_token doubles singles
+bar y s = ap token_at (before 124 (32 ∷ y) refl) ∙ bare_behind (codes "|") (124 ∷ 32 ∷ y) y s refl
+
 pub block_opens : (y : List ℕ) → IsBare y → token_at (124 ∷ 91 ∷ 32 ∷ y) ≡ Some (text (codes "|["), y)
 unfolding token_at front_token doubles singles
 block_opens y s = bare_behind (codes "|[") (124 ∷ 91 ∷ 32 ∷ y) y s refl

@@ -1,12 +1,15 @@
 -- How a step is laid out: its word and what follows it.
 use Rattle.std.specs.Prelude.{ℕ, List, [], ◌++◌, map, codes}
 use Rattle.rw_terms.specs.declared.term.Formula.{Formula}
+use Rattle.rw_heads.specs.declared.step.CallStep.{CallStep}
+use Rattle.rw_heads.specs.declared.step.ModStep.{ModStep}
+use Rattle.rw_heads.specs.declared.step.ModStep.TheVariants as modules
 use Rattle.rw_laws.specs.declared.step.BasicStep.{BasicStep}
 use Rattle.rw_laws.specs.declared.step.BasicStep.TheVariants as basic
 use Rattle.rw_loops.specs.declared.step.LoopStep.{LoopStep}
 use Rattle.rw_loops.specs.declared.step.LoopStep.TheVariants as loops
 use Rattle.rw_printer.specs.Layout.{printed_term, printed_formula, listed, names_text}
-use Rattle.rw_program_printer.specs.Layout.{assignment_text, local_text}
+use Rattle.rw_program_printer.specs.Layout.{assignment_text, passed_text, local_text}
 
 -- a step of a basic law
 abbrev pub basic_text : BasicStep → List ℕ
@@ -30,3 +33,12 @@ abbrev pub loop_text : LoopStep → List ℕ
 loop_text (loops.If gs) = codes "if " ++ guards_text gs
 loop_text (loops.Do v gs) = codes "do " ++ printed_term v ++ codes " ; " ++ guards_text gs
 loop_text (loops.Block x s) = codes "block " ++ local_text x s
+
+-- a call of a procedure
+abbrev pub call_text : CallStep → List ℕ
+call_text s = codes "call " ++ s.name ++ passed_text s.args s.results
+
+-- a block of a module, or a call of an operation
+abbrev pub module_text : ModStep → List ℕ
+module_text (modules.Open m) = codes "module " ++ m
+module_text (modules.Op m o ts xs) = codes "op " ++ m ++ codes "." ++ o ++ passed_text ts xs

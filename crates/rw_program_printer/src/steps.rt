@@ -3,10 +3,13 @@
 ghost use Rattle.std.specs.Prelude.{◌≡◌, ◌++◌, [], map, OnOk, IsTrue, codes};
 ghost use Rattle.rw_terms.specs.Texts.{is_ascii};
 ghost use Rattle.rw_printer.specs.Layout.{printed_formula};
+ghost use Rattle.rw_printer.specs.Readable.{named_formula};
 ghost use Rattle.rw_program_printer.specs.Layout.{assignment_text};
-ghost use Rattle.rw_program_printer.specs.Steps.{basic_text, guards_text, loop_text};
+ghost use Rattle.rw_program_printer.specs.Steps.{basic_text, guards_text, loop_text, call_text, module_text};
+ghost use Rattle.rw_program_printer.specs.StepsReadBack.{named_formulas, named_basic, named_loop, named_call, named_module};
 
-use crate::parts::{push_assignment, push_local, push_names};
+use crate::parts::{push_assignment, push_local, push_names, push_passed};
+use rw_heads::step::{CallStep, ModStep};
 use rw_laws::step::BasicStep;
 use rw_loops::step::LoopStep;
 use rw_printer::{push_formula, push_term, push_word};
@@ -16,7 +19,8 @@ use std::alloc::AllocError;
 
 /// Writes a step by a basic law behind a text.
 pub fn push_basic_step(text: &mut Text, step: &BasicStep) -> Result<(), AllocError>
-    ensures { OnOk result (text.new ≡ text.old ++ basic_text step.now) }
+    ensures text { OnOk result (text.new ≡ text.old ++ basic_text step.now) }
+    ensures names { OnOk result (IsTrue (named_basic step.now)) }
 {
     match step {
         BasicStep::Skip => text.push_str("skip"),
@@ -55,7 +59,8 @@ pub fn push_basic_step(text: &mut Text, step: &BasicStep) -> Result<(), AllocErr
 
 /// Writes a step to an alternation, a loop or a local block behind a text.
 pub fn push_loop_step(text: &mut Text, step: &LoopStep) -> Result<(), AllocError>
-    ensures { OnOk result (text.new ≡ text.old ++ loop_text step.now) }
+    ensures text { OnOk result (text.new ≡ text.old ++ loop_text step.now) }
+    ensures names { OnOk result (IsTrue (named_loop step.now)) }
 {
     match step {
         LoopStep::If(guards) => {
@@ -75,17 +80,49 @@ pub fn push_loop_step(text: &mut Text, step: &LoopStep) -> Result<(), AllocError
     }
 }
 
+/// Writes a call of a procedure behind a text.
+pub fn push_call_step(text: &mut Text, step: &CallStep) -> Result<(), AllocError>
+    ensures text { OnOk result (text.new ≡ text.old ++ call_text step.now) }
+    ensures names { OnOk result (IsTrue (named_call step.now)) }
+{
+    text.push_str("call ")?;
+    push_word(text, &step.name)?;
+    push_passed(text, step.args.as_slice(), step.results.as_slice())
+}
+
+/// Writes a step of a module behind a text.
+pub fn push_module_step(text: &mut Text, step: &ModStep) -> Result<(), AllocError>
+    ensures text { OnOk result (text.new ≡ text.old ++ module_text step.now) }
+    ensures names { OnOk result (IsTrue (named_module step.now)) }
+{
+    match step {
+        ModStep::Open(home) => {
+            text.push_str("module ")?;
+            push_word(text, home)
+        }
+        ModStep::Op(home, name, args, results) => {
+            text.push_str("op ")?;
+            push_word(text, home)?;
+            text.push_str(".")?;
+            push_word(text, name)?;
+            push_passed(text, args.as_slice(), results.as_slice())
+        }
+    }
+}
+
 // A word and a formula.
 fn push_with_formula(text: &mut Text, word: &str, formula: &Formula) -> Result<(), AllocError>
     requires { IsTrue (is_ascii word.now) }
-    ensures { OnOk result (text.new ≡ text.old ++ (word.now ++ printed_formula formula.now)) }
+    ensures text { OnOk result (text.new ≡ text.old ++ (word.now ++ printed_formula formula.now)) }
+    ensures names { OnOk result (IsTrue (named_formula formula.now)) }
 {
     text.push_str(word)?;
     push_formula(text, 0, formula)
 }
 
 fn push_guards(text: &mut Text, guards: &[Formula]) -> Result<(), AllocError>
-    ensures { OnOk result (text.new ≡ text.old ++ guards_text guards.now) }
+    ensures text { OnOk result (text.new ≡ text.old ++ guards_text guards.now) }
+    ensures names { OnOk result (IsTrue (named_formulas guards.now)) }
 {
     let mut before = "";
     for guard in guards {

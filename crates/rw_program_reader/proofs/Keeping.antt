@@ -123,7 +123,7 @@ results_keep : (Q : Given → Type 0) (F : Token → Bool) (k : List (List ℕ) 
 unfolding results names name_form is_variable is_name is_reserved reserved
 results_keep Q F k h = (refl, h [], names_keep Q F (λ xs. mark (codes ")") (k xs)) (λ xs. refl) (λ xs. (refl, λ x. h xs)))
 
-passed_keeps : (Q : Given → Type 0) (F : Token → Bool) (most : ℕ) (k : List Term × List (List ℕ) → Form) → ((a : List Term × List (List ℕ)) → Keeps Q F (k a)) → Keeps Q F (passed most k)
+pub passed_keeps : (Q : Given → Type 0) (F : Token → Bool) (most : ℕ) (k : List Term × List (List ℕ) → Form) → ((a : List Term × List (List ℕ)) → Keeps Q F (k a)) → Keeps Q F (passed most k)
 unfolding passed
 passed_keeps Q F most k h = inside_keeps Q F most (bracketed k) (λ m. refl) (λ m. (refl, λ x. arguments_keep Q F m (λ ts. results (λ xs. k (ts, xs))) (λ ts. results_keep Q F (λ xs. k (ts, xs)) (λ xs. h (ts, xs)))))
 

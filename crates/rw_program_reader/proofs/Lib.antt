@@ -4,3 +4,4 @@ pub mod Made
 pub mod ListItems
 pub mod Advance
 pub mod Texts
+pub mod StepTexts

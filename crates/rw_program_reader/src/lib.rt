@@ -1,4 +1,4 @@
-//! Reads programs: exactly the grammar, with the exact offset of a fault.
+//! Reads programs, and the steps that use a procedure or a module: exactly the grammar, with the exact offset of a fault.
 #![tactic(auto)]
 
 pub mod laws;
@@ -6,5 +6,7 @@ mod opening;
 mod plain;
 mod program;
 mod reading;
+pub mod steps;
 
 pub use reading::read_program;
+pub use steps::{read_call_step, read_module_step};

@@ -114,8 +114,8 @@ fn operation_call(
     Ok(Boxed::new(alloc, Prog::OpCall(home, name, terms, names))?)
 }
 
-// `( [ TERMS ] ; [ NAMES ] )`
-fn passed(
+/// Reads what is passed, in brackets.
+pub fn passed(
     alloc: Global,
     most: u64,
     line: &[u8],
